@@ -1,0 +1,6 @@
+pub mod Numbers
+pub mod Stores
+pub mod Rules
+pub mod Answers
+pub mod Folds
+pub mod Exact

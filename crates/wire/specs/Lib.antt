@@ -1,0 +1,5 @@
+pub mod Refusals
+pub mod Numbers
+pub mod Parts
+pub mod Answers
+pub mod Folds
