@@ -1,0 +1,364 @@
+// The strict reader: bytes into segments. It accepts exactly what the writer makes. The crate has none: it is added.
+use crate::Path;
+use crate::PathRead;
+use crate::PortSegment;
+use crate::Segment;
+use crate::SegmentRead;
+use crate::Slot;
+use crate::SymbolSegment;
+use crate::blank_path;
+use wire::Counted;
+use wire::Refusal;
+use wire::byte_at;
+use wire::u16_at;
+use wire::u32_at;
+ghost use mathlib.Core.Path.{_≡_};
+ghost use mathlib.Core.List.{[]};
+ghost use Prim.Native.Nat.{_+_, _≤_, _<_};
+ghost use lib.ListN.{length, getD};
+ghost use Rattle.wire.specs.Answers.{refused, paperCount};
+ghost use Rattle.wire.specs.Refusals.{number};
+ghost use Rattle.epath.specs.Limits.{maxPlace};
+ghost use Rattle.epath.specs.Segments.{farValue};
+ghost use Rattle.epath.specs.Lists.{pathOf, startOf, shifted};
+ghost use Rattle.epath.specs.Reads.{paperFront, formOf, made, readNarrow, readWide, readPart, readLink, readPortNumber, readPort, readSymbol, readSeg};
+ghost use Rattle.epath.specs.Paths.{Placed, checkPath, paperPath, readPath};
+
+// Which number a logical segment holds.
+enum Kind {
+    Class,
+    Instance,
+    Attribute,
+    Element,
+}
+
+// What a segment's first byte says of the rest.
+enum Form {
+    Port,
+    Symbol,
+    Narrow(Kind),
+    Wide(Kind),
+    Widest,
+    Unknown,
+}
+
+fn form_of(b: u8) -> Form
+    ensures { λ r. ⌜ r ≡ formOf b ⌝ }
+{
+    if b < crate::PORT_END {
+        return Form::Port;
+    }
+    if b == crate::SYMBOL {
+        return Form::Symbol;
+    }
+    if b == crate::CLASS {
+        return Form::Narrow(Kind::Class);
+    }
+    if b == crate::CLASS + 1 {
+        return Form::Wide(Kind::Class);
+    }
+    if b == crate::INSTANCE {
+        return Form::Narrow(Kind::Instance);
+    }
+    if b == crate::INSTANCE + 1 {
+        return Form::Wide(Kind::Instance);
+    }
+    if b == crate::ATTRIBUTE {
+        return Form::Narrow(Kind::Attribute);
+    }
+    if b == crate::ATTRIBUTE + 1 {
+        return Form::Wide(Kind::Attribute);
+    }
+    if b == crate::ELEMENT {
+        return Form::Narrow(Kind::Element);
+    }
+    if b == crate::ELEMENT + 1 {
+        return Form::Wide(Kind::Element);
+    }
+    if b == crate::ELEMENT + 2 {
+        return Form::Widest;
+    }
+    Form::Unknown
+}
+
+fn make(kind: Kind, v: u16) -> Segment
+    ensures { λ r. ⌜ r ≡ made kind v ⌝ }
+{
+    match kind {
+        Kind::Class => Segment::Class(v),
+        Kind::Instance => Segment::Instance(v),
+        Kind::Attribute => Segment::Attribute(v),
+        Kind::Element => Segment::Element(v as u32),
+    }
+}
+
+// A number in one byte.
+fn read_narrow(t: &[u8], kind: Kind) -> SegmentRead
+    ensures { λ r. ⌜ paperFront r ≡ readNarrow (made kind) (now (t .entry)) ⌝ }
+{
+    if t.len() < 2 {
+        return SegmentRead::Refused(Refusal::Short);
+    }
+    let v = byte_at(t, 1);
+    let x = make(kind, v as u16);
+    SegmentRead::Found(x, 2)
+}
+
+// A number in two bytes behind a zero.
+fn read_wide(t: &[u8], kind: Kind) -> SegmentRead
+    ensures { λ r. ⌜ paperFront r ≡ readWide (made kind) 2 256 (now (t .entry)) ⌝ }
+{
+    if t.len() < 2 {
+        return SegmentRead::Refused(Refusal::Short);
+    }
+    let pad = byte_at(t, 1);
+    if pad != 0 {
+        return SegmentRead::Refused(Refusal::Form);
+    }
+    if t.len() < 4 {
+        return SegmentRead::Refused(Refusal::Short);
+    }
+    let v = u16_at(t, 2);
+    if v < 256 {
+        return SegmentRead::Refused(Refusal::Form);
+    }
+    let x = make(kind, v);
+    SegmentRead::Found(x, 4)
+}
+
+// An element in four bytes behind a zero.
+fn read_widest(t: &[u8]) -> SegmentRead
+    ensures { λ r. ⌜ paperFront r ≡ readWide Segment.Element 4 65536 (now (t .entry)) ⌝ }
+{
+    if t.len() < 2 {
+        return SegmentRead::Refused(Refusal::Short);
+    }
+    let pad = byte_at(t, 1);
+    if pad != 0 {
+        return SegmentRead::Refused(Refusal::Form);
+    }
+    if t.len() < 6 {
+        return SegmentRead::Refused(Refusal::Short);
+    }
+    let v = u32_at(t, 2);
+    if v < 65536 {
+        return SegmentRead::Refused(Refusal::Form);
+    }
+    SegmentRead::Found(Segment::Element(v), 6)
+}
+
+// The bytes up to end, and a zero where that is odd: the end of the segment x.
+fn read_part(t: &[u8], x: Segment, end: usize) -> SegmentRead
+    requires { ⌜ end < 1000 ⌝ }
+    ensures { λ r. ⌜ paperFront r ≡ readPart x end (now (t .entry)) ⌝ }
+{
+    if t.len() < end {
+        return SegmentRead::Refused(Refusal::Short);
+    }
+    if end % 2 == 0 {
+        return SegmentRead::Found(x, end);
+    }
+    if t.len() < end + 1 {
+        return SegmentRead::Refused(Refusal::Short);
+    }
+    let pad = byte_at(t, end);
+    if pad != 0 {
+        return SegmentRead::Refused(Refusal::Form);
+    }
+    SegmentRead::Found(x, end + 1)
+}
+
+fn read_symbol(t: &[u8]) -> SegmentRead
+    ensures { λ r. ⌜ paperFront r ≡ readSymbol (now (t .entry)) ⌝ }
+{
+    if t.len() < 2 {
+        return SegmentRead::Refused(Refusal::Short);
+    }
+    let len = byte_at(t, 1);
+    let x = Segment::Symbol(SymbolSegment {
+        start: 2,
+        len: len as u32,
+    });
+    read_part(t, x, 2 + len as usize)
+}
+
+// A link of len bytes from at on.
+fn read_link(t: &[u8], port: u16, at: usize, len: u8) -> SegmentRead
+    requires { ⌜ at ≤ 4 ⌝ }
+    ensures { λ r. ⌜ paperFront r ≡ readLink port at len (now (t .entry)) ⌝ }
+{
+    let x = Segment::Port(PortSegment {
+        port,
+        start: at as u32,
+        len: len as u32,
+    });
+    read_part(t, x, at + len as usize)
+}
+
+// A port that does not fit the first byte: two bytes, HIGH byte first.
+fn far_port_at(t: &[u8], at: usize) -> u16
+    requires { ⌜ at ≤ 2 ⌝ }
+    ensures { λ r. ⌜ r ≡ farValue (getD (now (t .entry)) at 0) (getD (now (t .entry)) (at + 1) 0) ⌝ }
+{
+    let high = byte_at(t, at);
+    let rest = byte_at(t, at + 1);
+    256 * (high as u16) + rest as u16
+}
+
+// The port, from at on where the low four bits are 15, and what follows it.
+fn read_port_number(t: &[u8], low: u8, at: usize, len: u8) -> SegmentRead
+    requires { ⌜ at ≤ 2 ⌝ }
+    ensures { λ r. ⌜ paperFront r ≡ readPortNumber low at len (now (t .entry)) ⌝ }
+{
+    if low < crate::FAR_PORT {
+        return read_link(t, low as u16, at, len);
+    }
+    if t.len() < at + 2 {
+        return SegmentRead::Refused(Refusal::Short);
+    }
+    let port = far_port_at(t, at);
+    if port <= crate::NEAR_PORT {
+        return SegmentRead::Refused(Refusal::Form);
+    }
+    read_link(t, port, at + 2, len)
+}
+
+// A port segment whose first byte is b.
+fn read_port(t: &[u8], b: u8) -> SegmentRead
+    ensures { λ r. ⌜ paperFront r ≡ readPort b (now (t .entry)) ⌝ }
+{
+    let low = b % crate::LONG_LINK;
+    if b < crate::LONG_LINK {
+        return read_port_number(t, low, 1, 1);
+    }
+    if t.len() < 2 {
+        return SegmentRead::Refused(Refusal::Short);
+    }
+    let len = byte_at(t, 1);
+    if len < 2 {
+        return SegmentRead::Refused(Refusal::Form);
+    }
+    if crate::MAX_LINK < len as usize {
+        return SegmentRead::Refused(Refusal::Limit);
+    }
+    read_port_number(t, low, 2, len)
+}
+
+// What stands at the front; starts count from there.
+pub fn read_segment(t: &[u8]) -> SegmentRead
+    ensures { λ r. ⌜ paperFront r ≡ readSeg (now (t .entry)) ⌝ }
+{
+    if t.len() < 1 {
+        return SegmentRead::Refused(Refusal::Short);
+    }
+    let b = byte_at(t, 0);
+    match form_of(b) {
+        Form::Port => read_port(t, b),
+        Form::Symbol => read_symbol(t),
+        Form::Narrow(kind) => read_narrow(t, kind),
+        Form::Wide(kind) => read_wide(t, kind),
+        Form::Widest => read_widest(t),
+        Form::Unknown => SegmentRead::Refused(Refusal::Code),
+    }
+}
+
+// The same segment, its bytes counted from at places earlier.
+fn shift(x: Segment, at: usize) -> Segment
+    requires { ⌜ (startOf x ≤ 4) × (at ≤ maxPlace) ⌝ }
+    ensures { λ r. ⌜ r ≡ shifted at x ⌝ }
+{
+    match x {
+        Segment::Symbol(y) => Segment::Symbol(SymbolSegment {
+            start: at as u32 + y.start,
+            len: y.len,
+        }),
+        Segment::Class(v) => Segment::Class(v),
+        Segment::Instance(v) => Segment::Instance(v),
+        Segment::Attribute(v) => Segment::Attribute(v),
+        Segment::Element(v) => Segment::Element(v),
+        Segment::Port(q) => Segment::Port(PortSegment {
+            port: q.port,
+            start: at as u32 + q.start,
+            len: q.len,
+        }),
+    }
+}
+
+// What stands at a place in s; starts are places in s.
+fn segment_at(s: &[u8], at: usize) -> SegmentRead
+    requires { ⌜ (at ≤ length (now s)) × (at ≤ maxPlace) ⌝ }
+    ensures { λ r. ⌜ Placed (now (s .entry)) at (paperFront r) ⌝ }
+{
+    match read_segment(&s[at..]) {
+        SegmentRead::Refused(e) => SegmentRead::Refused(e),
+        SegmentRead::Found(x, n) => {
+            let y = shift(x, at);
+            SegmentRead::Found(y, at + n)
+        }
+    }
+}
+
+// How many segments a path has; only counts.
+pub fn check_path(s: &[u8]) -> Counted
+    ensures { λ r. ⌜ paperCount r ≡ checkPath (now (s .entry)) ⌝ }
+{
+    let mut count: usize = 0;
+    let mut at: usize = 0;
+    while at < s.len() {
+        if count == crate::MAX_SEGMENTS {
+            return Counted::Refused(Refusal::Limit);
+        }
+        match segment_at(s, at) {
+            SegmentRead::Found(_, next) => {
+                at = next;
+            }
+            SegmentRead::Refused(e) => {
+                return Counted::Refused(e);
+            }
+        }
+        count += 1;
+    }
+    Counted::Count(count)
+}
+
+// A refusal beside a list that holds nothing.
+fn no_path(e: Refusal) -> PathRead
+    ensures { λ r. ⌜ paperPath r ≡ record { answer = refused (number e); path = pathOf [] } ⌝ }
+{
+    let path = blank_path();
+    PathRead {
+        answer: Counted::Refused(e),
+        path,
+    }
+}
+
+// The segments of a path; the bytes of symbols and links are parts of s.
+pub fn read_path(s: &[u8]) -> PathRead
+    ensures { λ r. ⌜ paperPath r ≡ readPath (now (s .entry)) ⌝ }
+{
+    let blank = Slot {
+        segment: Segment::Class(0),
+    };
+    let mut slots = [blank; crate::MAX_SEGMENTS];
+    let mut count: usize = 0;
+    let mut at: usize = 0;
+    while at < s.len() {
+        if count == crate::MAX_SEGMENTS {
+            return no_path(Refusal::Limit);
+        }
+        match segment_at(s, at) {
+            SegmentRead::Found(x, next) => {
+                slots[count] = Slot { segment: x };
+                at = next;
+            }
+            SegmentRead::Refused(e) => {
+                return no_path(e);
+            }
+        }
+        count += 1;
+    }
+    PathRead {
+        answer: Counted::Count(count),
+        path: Path { slots, count },
+    }
+}
