@@ -1,8 +1,10 @@
 -- What the sizes and the writers answer. Document 01, "Refusal numbers": the count, then segments first to last, 11 before 3 in each, then room.
 -- Assumes nothing: these are definitions.
-use Prim.Native.Nat.{ℕ, _-_}
+use Prim.Native.Nat.{ℕ, _+_, _-_}
+use mathlib.Core.Path.{_≡_}
 use mathlib.Core.List.{List, [], _∷_}
 use lib.ListN.{length}
+use lib.Seq.{sets}
 use Rattle.wire.specs.Answers.{Answer, done, Rule, over, judged, KeepsAll}
 use Rattle.wire.specs.Folds.{sizes}
 use Rattle.epath.specs.Limits.{maxSegments, maxSymbol, maxLink}
@@ -44,3 +46,8 @@ AllGoodIn pool (x ∷ l) = Good pool (x .segment) × AllGoodIn pool l
 
 abbrev pub AllGood : List ℕ → Path → Type 0
 AllGood pool p = AllGoodIn pool (slotsOf p)
+
+-- bytes stored from a place on: where they end, and the list
+pub record PutAt (at : ℕ) (bytes old : List ℕ) (r : ℕ) (new : List ℕ) : Type 0 where
+  pub ends : r ≡ at + length bytes
+  pub stored : new ≡ sets old at bytes

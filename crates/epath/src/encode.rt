@@ -12,20 +12,20 @@ use wire::put_u16;
 use wire::put_u32;
 ghost use mathlib.Core.Path.{_≡_};
 ghost use mathlib.Core.List.{_++_};
-ghost use Prim.Native.Nat.{ℕ, _+_, _≤_, _<_};
+ghost use Prim.Native.Nat.{_+_, _≤_, _<_};
 ghost use lib.ListN.{length};
 ghost use lib.Seq.{sets};
 ghost use Rattle.wire.specs.Answers.{paperSize, done, judged, withRoom, written, Put};
 ghost use Rattle.epath.specs.Limits.{maxSegments, maxSymbol, maxLink, classCode, instanceCode, attributeCode, elementCode};
 ghost use Rattle.epath.specs.Segments.{Seg, logical, portHead, pad, encodeSeg, encode, farPort};
 ghost use Rattle.epath.specs.Lists.{meaning, segsOf};
-ghost use Rattle.epath.specs.Writes.{partRules, segmentSize, pathSize, Good, AllGood};
+ghost use Rattle.epath.specs.Writes.{partRules, segmentSize, pathSize, Good, AllGood, PutAt};
 
 // ---- sizes
 
-// How many bytes a logical segment with this value takes.
+// How many bytes a logical segment with this value takes, whatever its code.
 fn logical_size(v: u32) -> usize
-    ensures { λ r. ⌜ ((code : ℕ) → r ≡ length (logical code v)) ⌝ }
+    ensures { λ r. ⌜ r ≡ length (logical 0 v) ⌝ }
 {
     if v <= 255 {
         return 2;
@@ -214,8 +214,7 @@ fn encode_element(v: u32, out: &mut [u8]) -> usize
 // Stores src from index at on, with a zero where the end would be odd, and returns the end.
 fn put_padded(out: &mut [u8], at: usize, src: &[u8]) -> usize
     requires { ⌜ at ≤ 4 ⌝ }
-    ensures { λ r. ⌜ (r ≡ at + length (now (src .entry)) + length (pad (at + length (now (src .entry)))))
-        × (now (out .exit) ≡ sets (now (out .entry)) at (now (src .entry) ++ pad (at + length (now (src .entry))))) ⌝ }
+    ensures { λ r. ⌜ PutAt at (now (src .entry) ++ pad (at + length (now (src .entry)))) (now (out .entry)) r (now (out .exit)) ⌝ }
 {
     put_bytes(out, at, src);
     let end = at + src.len();

@@ -125,6 +125,10 @@ pub fn is_port(s: Segment) -> bool
 {
     match s {
         Segment::Port(_) => true,
-        _ => false,
+        Segment::Symbol(_) => false,
+        Segment::Class(_) => false,
+        Segment::Instance(_) => false,
+        Segment::Attribute(_) => false,
+        Segment::Element(_) => false,
     }
 }

@@ -1,0 +1,9 @@
+pub mod ReadLaws
+pub mod Forms
+pub mod Got
+pub mod Places
+pub mod Walks
+pub mod Back
+pub mod Held
+pub mod SizeLaws
+pub mod WriteLaws

@@ -1,0 +1,50 @@
+-- A segment at a place: what the reader of the part from there says of the whole. Assumes nothing.
+use Prim.Native.Nat.{ℕ, zero, suc, _+_, _-_, _≤_, _<_, _^_}
+use mathlib.Core.Path.{_≡_, refl, sym, ap, _∙_}
+use mathlib.Core.List.{List, [], _∷_, _++_}
+use native.Mathlib.Omega.{arith}
+use lib.ListN.{length, getD, take, drop, length-drop}
+use mir.Val.{Fits}
+use mir.Syntax.{w8, w64}
+use Rattle.wire.specs.Numbers.{Bytes}
+use Rattle.wire.specs.Refusals.{number}
+use Rattle.wire.specs.declared.Refusal.{Refusal}
+use Rattle.wire.specs.Answers.{Answer, done, refused}
+use Rattle.wire.proofs.Numbers.{bytes-drop}
+use Rattle.wire.proofs.Stores.{lent-all}
+use Rattle.epath.specs.Limits.{maxPlace}
+use Rattle.epath.specs.Lists.{startOf, shifted}
+use Rattle.epath.specs.declared.Segment.{Segment}
+use Rattle.epath.specs.declared.SegmentRead.{SegmentRead}
+use Rattle.epath.specs.declared.SegmentRead.the-variants.{Found, Refused}
+use Rattle.epath.specs.Reads.{front, paperFront, readSeg, moved}
+use Rattle.epath.specs.Paths.{Placed, nextOf}
+use Rattle.epath.proofs.Got.{Got, got}
+
+module _ (s : List ℕ) (at : ℕ) (r : SegmentRead) (e : paperFront r ≡ readSeg (take (length s - at) (drop at s))) where
+  whole : readSeg (drop at s) ≡ paperFront r
+  whole = rw (← lent-all s at) (sym e)
+
+  pub at-refused : (k : Refusal) → r ≡ Refused k → Placed s at (refused (number k))
+  at-refused k h = record { is = rw (whole, h); inside = omega arith; close = omega arith }
+
+  module _ (x : Segment) (n : ℕ) (h : r ≡ Found x n) where
+    at-got : ((k : ℕ) → Fits w8 (getD s k 0)) → Got (drop at s) x n
+    at-got b = got (drop at s) x n (bytes-drop s at (λ k. b k .fits)) (whole ∙ rw h)
+
+    pub at-near : ((k : ℕ) → Fits w8 (getD s k 0)) → startOf x ≤ 4
+    at-near b = at-got b .near
+
+    pub at-fits : ((k : ℕ) → Fits w8 (getD s k 0)) → at ≤ length s → length s < 2 ^ 64 → Fits w64 (at + n)
+    at-fits b l f =
+        let g : n ≤ length (drop at s) = at-got b .size in
+        let k : n ≤ length s - at = simp length-drop at g in
+        record { fits = omega arith }
+
+    pub at-found : (y : Segment) → ((k : ℕ) → Fits w8 (getD s k 0)) → y ≡ shifted at x → at ≤ length s → Placed s at (done (front y (at + n)))
+    at-found y b p l =
+        let g : n ≤ length (drop at s) = at-got b .size in
+        let k : n ≤ length s - at = simp length-drop at g in
+        record { is = rw (whole, h, p); inside = omega arith; close = omega (arith, at-got b .small) }
+
+pub ruleset place-laws = (at-refused, at-found, at-near, at-fits)

@@ -1,0 +1,186 @@
+-- The walk over a path's segments, a turn at a time: what is left gives what the whole gives. Assumes nothing.
+use Prim.Native.Nat.{ℕ, zero, suc, _+_, _*_, _-_, _≤_, _<_}
+use mathlib.Core.Path.{_≡_, refl, sym, ap, _∙_}
+use mathlib.Core.List.{List, [], _∷_, _++_}
+use mathlib.Core.Bool.{Bool, true, false}
+use native.Mathlib.Omega.{arith}
+use native.Mathlib.Nat.{add-zero, zero-add}
+use native.Mathlib.Numerals.{add-one}
+use lib.ListN.{length, getD, take, drop, set, length-set, length-replicate}
+use lib.Seq.{sets}
+use borrow.Author.Tests.{lt-ltb, le-ltb}
+use Rattle.wire.specs.Refusals.{number}
+use Rattle.wire.specs.Answers.{Answer, done, refused}
+use Rattle.wire.specs.declared.Refusal.{Refusal}
+use Rattle.epath.specs.Limits.{maxSegments, maxPlace}
+use Rattle.epath.specs.declared.Segment.{Segment}
+use Rattle.epath.specs.declared.SegmentRead.{SegmentRead}
+use Rattle.epath.specs.declared.SegmentRead.the-variants.{Found, Refused}
+use Rattle.epath.specs.declared.Slot.{Slot}
+use Rattle.epath.specs.declared.Path.{Path}
+use Rattle.epath.specs.Lists.{blank, blanks, pathOf}
+use Rattle.epath.specs.Reads.{Front, front, paperFront, readSeg, moved}
+use Rattle.epath.specs.Paths.{before, walk, PathFound, countOf, listOf, readPath, checkPath, nextOf, Placed}
+
+-- ---- each end of the walk
+module _ (s : List ℕ) (at : ℕ) where
+  pub walk-ends : (left : ℕ) → length s ≤ at → walk left s at ≡ done []
+  unfolding walk
+  walk-ends zero h = simp (le-ltb _ _ h, walk)
+  walk-ends (suc left) h = simp (le-ltb _ _ h, walk)
+
+  pub walk-full : at < length s → walk zero s at ≡ refused 3
+  unfolding walk
+  walk-full h = simp (lt-ltb _ _ h, walk)
+
+  pub walk-stops : (left k : ℕ) → at < length s → moved at (readSeg (drop at s)) ≡ refused k → walk (suc left) s at ≡ refused k
+  unfolding walk
+  walk-stops left k h e = simp (lt-ltb _ _ h, e, walk)
+
+  pub walk-goes : (left : ℕ) (x : Segment) (next : ℕ) → at < length s → moved at (readSeg (drop at s)) ≡ done (front x next) → walk (suc left) s at ≡ before x (walk left s next)
+  unfolding walk
+  walk-goes left x next h e = simp (lt-ltb _ _ h, e, walk)
+
+-- ---- counting
+abbrev pub adds : ℕ → Answer (List Slot) → Answer ℕ
+adds n (done l) = done (n + length l)
+adds n (refused k) = refused k
+
+adds-none : (w : Answer (List Slot)) → adds 0 w ≡ countOf w
+adds-none (done l) = ap done (zero-add (length l))
+adds-none (refused k) = refl
+
+adds-one : (n : ℕ) (x : Segment) (w : Answer (List Slot)) → adds n (before x w) ≡ adds (n + 1) w
+adds-one n x (done l) = ap done (omega arith)
+adds-one n x (refused k) = refl
+
+-- what any loop of the walk keeps of its place
+pub record Stands (s : List ℕ) (count at : ℕ) : Type 0 where
+  pub few : count ≤ maxSegments
+  pub there : at ≤ length s
+  pub near : at ≤ 260 * count
+
+pub record Counting (s : List ℕ) (count at : ℕ) : Type 0 where
+  pub stands : Stands s count at
+  pub rest : adds count (walk (maxSegments - count) s at) ≡ checkPath s
+
+module _ (s : List ℕ) (count at : ℕ) where
+  one-less : (count ≡ maxSegments → ⊥) → count ≤ maxSegments → maxSegments - count ≡ suc (maxSegments - (count + 1))
+  one-less h l = omega arith
+
+  -- what a segment's reader asks
+  pub stands-there : Stands s count at → at ≤ length s
+  stands-there w = w .there
+
+  pub stands-near : Stands s count at → at ≤ maxPlace
+  stands-near w = omega arith
+
+  stands-more : (x : Segment) (next : ℕ) → Stands s count at → (count ≡ maxSegments → ⊥) → Placed s at (done (front x next)) → Stands s (count + 1) next
+  stands-more x next w c p = record { few = omega arith; there = p .inside; near = omega (arith, p .close) }
+
+  module _ (w : Counting s count at) where
+    pub counting-full : at < length s → count ≡ maxSegments → refused 3 ≡ checkPath s
+    counting-full h c =
+        let z : maxSegments - count ≡ 0 = omega arith in
+        ap (adds count) (sym (walk-full s at h)) ∙ ap (λ (k : ℕ). adds count (walk k s at)) (sym z) ∙ w .rest
+
+    pub counting-ends : length s ≤ at → done count ≡ checkPath s
+    counting-ends h = ap done (sym (add-zero count)) ∙ ap (adds count) (sym (walk-ends s at (maxSegments - count) h)) ∙ w .rest
+
+    module _ (r : SegmentRead) (p : Placed s at (paperFront r)) (h : at < length s) (c : count ≡ maxSegments → ⊥) where
+      pub counting-stops : (e : Refusal) → r ≡ Refused e → refused (number e) ≡ checkPath s
+      counting-stops e q =
+          ap (adds count) (sym (walk-stops s at (maxSegments - (count + 1)) (number e) h (sym (p .is) ∙ rw q)))
+          ∙ ap (λ (k : ℕ). adds count (walk k s at)) (sym (one-less c (w .stands .few)))
+          ∙ w .rest
+
+      pub counting-more : (x : Segment) (next : ℕ) → r ≡ Found x next → Counting s (count + 1) next
+      counting-more x next q =
+          record {
+            stands = stands-more x next (w .stands) c (rw q at p);
+            rest =
+                sym (adds-one count x (walk (maxSegments - (count + 1)) s next))
+                ∙ ap (adds count) (sym (walk-goes s at (maxSegments - (count + 1)) x next h (sym (p .is) ∙ rw q)))
+                ∙ ap (λ (k : ℕ). adds count (walk k s at)) (sym (one-less c (w .stands .few)))
+                ∙ w .rest;
+          }
+
+pub counting-first : (s : List ℕ) → Counting s 0 0
+unfolding checkPath
+counting-first s = record { stands = record { few = omega arith; there = omega arith; near = omega arith }; rest = adds-none (walk maxSegments s 0) }
+
+pub ruleset counting-laws = (stands-there, stands-near, counting-full, counting-ends, counting-stops, counting-more, counting-first)
+
+-- ---- filling the slots
+abbrev pub nothing : ℕ → PathFound
+nothing k = record { answer = refused k; path = pathOf [] }
+
+abbrev pub fills : List Slot → ℕ → Answer (List Slot) → PathFound
+fills slots n (done l) = record { answer = done (n + length l); path = record { slots = sets slots n l; count = n + length l } }
+fills slots n (refused k) = nothing k
+
+abbrev wholly : Answer (List Slot) → PathFound
+wholly w = record { answer = countOf w; path = pathOf (listOf w) }
+
+fills-none : (w : Answer (List Slot)) → fills blanks 0 w ≡ wholly w
+fills-none (done l) = rw (zero-add (length l))
+fills-none (refused k) = refl
+
+fills-one : (slots : List Slot) (n : ℕ) (x : Segment) (w : Answer (List Slot)) → fills slots n (before x w) ≡ fills (set slots n (record { segment = x })) (n + 1) w
+fills-one slots n x (done l) =
+    let e : n + suc (length l) ≡ n + 1 + length l = omega arith in
+    rw (e, add-one n)
+fills-one slots n x (refused k) = refl
+
+pub record Filling (s : List ℕ) (slots : List Slot) (count at : ℕ) : Type 0 where
+  pub stands : Stands s count at
+  pub long : length slots ≡ maxSegments
+  pub rest : fills slots count (walk (maxSegments - count) s at) ≡ readPath s
+
+module _ (s : List ℕ) (slots : List Slot) (count at : ℕ) (w : Filling s slots count at) where
+  pub filling-full : (z : PathFound) → at < length s → count ≡ maxSegments → z ≡ nothing 3 → z ≡ readPath s
+  filling-full y h c e =
+      let z : maxSegments - count ≡ 0 = omega arith in
+      e ∙ ap (fills slots count) (sym (walk-full s at h)) ∙ ap (λ (k : ℕ). fills slots count (walk k s at)) (sym z) ∙ w .rest
+
+  pub filling-ends : length s ≤ at → record { answer = done count; path = record { slots = slots; count = count } } ≡ readPath s
+  filling-ends h =
+      let e : fills slots count (done []) ≡ record { answer = done count; path = record { slots = slots; count = count } } = rw (add-zero count) in
+      sym e ∙ ap (fills slots count) (sym (walk-ends s at (maxSegments - count) h)) ∙ w .rest
+
+  module _ (r : SegmentRead) (p : Placed s at (paperFront r)) (h : at < length s) (c : count ≡ maxSegments → ⊥) where
+    pub filling-stops : (z : PathFound) (e : Refusal) → r ≡ Refused e → z ≡ nothing (number e) → z ≡ readPath s
+    filling-stops z e q f =
+        f
+        ∙ ap (fills slots count) (sym (walk-stops s at (maxSegments - (count + 1)) (number e) h (sym (p .is) ∙ rw q)))
+        ∙ ap (λ (k : ℕ). fills slots count (walk k s at)) (sym (one-less s count at c (w .stands .few)))
+        ∙ w .rest
+
+    pub filling-more : (x : Segment) (next : ℕ) → r ≡ Found x next → Filling s (set slots count (record { segment = x })) (count + 1) next
+    filling-more x next q =
+        record {
+          stands = stands-more s count at x next (w .stands) c (rw q at p);
+          long = length-set slots count (record { segment = x }) ∙ w .long;
+          rest =
+              sym (fills-one slots count x (walk (maxSegments - (count + 1)) s next))
+              ∙ ap (fills slots count) (sym (walk-goes s at (maxSegments - (count + 1)) x next h (sym (p .is) ∙ rw q)))
+              ∙ ap (λ (k : ℕ). fills slots count (walk k s at)) (sym (one-less s count at c (w .stands .few)))
+              ∙ w .rest;
+        }
+
+pub filling-first : (s : List ℕ) → Filling s blanks 0 0
+unfolding readPath
+filling-first s =
+    record {
+      stands = record { few = omega arith; there = omega arith; near = omega arith };
+      long = length-replicate maxSegments blank;
+      rest = fills-none (walk maxSegments s 0);
+    }
+
+pub ruleset filling-laws = (stands-there, stands-near, filling-full, filling-ends, filling-stops, filling-more, filling-first)
+
+-- a refusal beside the list that holds nothing
+pub none-read : (e : Refusal) (path : Path) → path ≡ pathOf [] → record { answer = refused (number e); path = path } ≡ nothing (number e)
+none-read e path h = ap (λ (p : Path). record { answer = refused (number e); path = p }) h
+
+pub ruleset nothing-laws = (none-read)

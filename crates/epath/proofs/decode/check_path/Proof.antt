@@ -1,0 +1,66 @@
+-- `epath::decode::check_path` meets its contract. Assumes nothing.
+--: use Rattle.epath.proofs.Walks.{Counting, counting-laws}
+--: use Prim.Native.Nat.{_-_}
+--: use Rattle.epath.specs.Limits.{maxSegments}
+--: Inv-loop = Counting s count at
+--: μ-loop = maxSegments - count
+--: * = search (counting-laws, needs) fits 5000
+use Rattle.epath.proofs.Walks.{Counting, counting-laws}
+use Prim.Native.Nat.{_-_}
+use Rattle.epath.specs.Limits.{maxSegments}
+use Rattle.epath.proofs.decode.check_path.Statement.{statement}
+use borrow.Author.Needs.{needs}
+use Rattle.epath.proofs.decode.check_path.Tie as tie
+
+abbrev Inv-loop : tie.InvT-loop
+Inv-loop s count₀ at₀ count at = Counting s count at
+
+abbrev μ-loop : tie.MeasureT-loop
+μ-loop s count₀ at₀ count at = maxSegments - count
+
+loop-holds : tie.Need-loop-holds Inv-loop μ-loop
+loop-holds c = search (counting-laws, needs) fits 5000
+
+returns : tie.Need-returns Inv-loop μ-loop
+returns c = search (counting-laws, needs) fits 5000
+
+segment-at-requires : tie.Need-segment-at-requires Inv-loop μ-loop
+segment-at-requires c κs = search (counting-laws, needs) fits 5000
+
+enum-known-next : tie.Need-enum-known-next Inv-loop μ-loop
+enum-known-next c = search (counting-laws, needs) fits 5000
+
+enum-known-e : tie.Need-enum-known-e Inv-loop μ-loop
+enum-known-e c = search (counting-laws, needs) fits 5000
+
+returns-2 : tie.Need-returns-2 Inv-loop μ-loop
+returns-2 c = search (counting-laws, needs) fits 5000
+
+add-count : tie.Need-add-count Inv-loop μ-loop
+add-count c = search (counting-laws, needs) fits 5000
+
+loop-less : tie.Need-loop-less Inv-loop μ-loop
+loop-less c = search (counting-laws, needs) fits 5000
+
+loop-again : tie.Need-loop-again Inv-loop μ-loop
+loop-again c = search (counting-laws, needs) fits 5000
+
+returns-3 : tie.Need-returns-3 Inv-loop μ-loop
+returns-3 c = search (counting-laws, needs) fits 5000
+
+pub check-path-spec : {M : Type 1} → statement M
+check-path-spec =
+    tie.close
+    (tie.spec
+    Inv-loop
+    μ-loop
+    loop-holds
+    returns
+    segment-at-requires
+    enum-known-next
+    enum-known-e
+    returns-2
+    add-count
+    loop-less
+    loop-again
+    returns-3)
