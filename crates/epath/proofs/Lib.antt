@@ -7,3 +7,4 @@ pub mod Back
 pub mod Held
 pub mod SizeLaws
 pub mod WriteLaws
+pub mod PathLaws
