@@ -193,7 +193,7 @@ module _ (pool : List ℕ) (p : Path) where
 
     module _ (full : length (p .slots) ≡ maxSegments) (few : p .count ≤ maxSegments) where
       pub filing-ends : p .count ≤ i → out ≡ sets old 0 (encode (segsOf pool p))
-      filing-ends h = storing-ends encodeSeg (segsOf pool p) (f .stores) (rw (length-map (λ (x : Slot). meaning pool (x .segment)) (slotsOf p)) (past p full few i h))
+      filing-ends h = storing-ends encodeSeg (segsOf pool p) (f .stores) (simp length-map (past p full few i h))
 
       module _ (h : i < p .count) where
         x : Slot
@@ -212,9 +212,9 @@ module _ (pool : List ℕ) (p : Path) where
         filing-asks = goods-here .0
 
         module _ (n : ℕ) (new : List ℕ) (t : Put (encodeSeg (meaning pool (getD (p .slots) i none .segment))) (take (length out - at) (drop at out)) n new) where
-          pub filing-fits : length out < 2 ^ 64 → Fits w64 (at + n)
+          pub filing-fits : length old < 2 ^ 64 → Fits w64 (at + n)
           unfolding x
-          filing-fits g = record { fits = omega (arith, storing-fits encodeSeg (segsOf pool p) (f .stores) here, t .size) }
+          filing-fits g = record { fits = omega (arith, storing-fits encodeSeg (segsOf pool p) (f .stores) here, t .size, f .stores .same) }
 
           pub filing-more : Filing pool p old (take at out ++ (new ++ drop (length out - at) (drop at out))) (at + n) (i + 1)
           unfolding x

@@ -90,29 +90,34 @@ room-was (done m) room n h =
 room-was (refused k) room n h = never h
 
 -- ---- the three ends of a writer that sized its bytes as y: what it answers, and what the lent output then holds
-module _ (y : Answer ℕ) (bytes old : List ℕ) where
-  abbrev pub Leaves : Answer ℕ → List ℕ → Type 0
-  Leaves w new = (w ≡ withRoom y (length old)) × (new ≡ written (withRoom y (length old)) bytes old)
+module _ (y : Answer ℕ) (bytes old : List ℕ) (r : Wrote) (is : paperSize r ≡ y) where
+  after : (w : Answer ℕ) {new : List ℕ} → w ≡ withRoom y (length old) → new ≡ written w bytes old → new ≡ written (withRoom y (length old)) bytes old
+  after w e b = b ∙ ap (λ (x : Answer ℕ). written x bytes old) e
 
-  both : (w : Answer ℕ) {new : List ℕ} → w ≡ withRoom y (length old) → new ≡ written w bytes old → Leaves w new
-  both w e b = (e, b ∙ ap (λ (x : Answer ℕ). written x bytes old) e)
+  pub refused-answer : (e : Refusal) → r ≡ NotWritten e → refused (number e) ≡ withRoom y (length old)
+  refused-answer e h = ap (λ (x : Answer ℕ). withRoom x (length old)) (sym (ap paperSize h) ∙ is)
 
-  module _ (r : Wrote) (is : paperSize r ≡ y) where
-    pub ends-refused : (e : Refusal) → r ≡ NotWritten e → Leaves (refused (number e)) old
-    ends-refused e h = both (refused (number e)) (ap (λ (x : Answer ℕ). withRoom x (length old)) (sym (ap paperSize h) ∙ is)) refl
+  pub refused-bytes : (e : Refusal) → r ≡ NotWritten e → old ≡ written (withRoom y (length old)) bytes old
+  refused-bytes e h = after (refused (number e)) (refused-answer e h) refl
 
-    module _ (n : ℕ) (h : r ≡ Size n) where
-      fits : done n ≡ y
-      fits = sym (ap paperSize h) ∙ is
+  module _ (n : ℕ) (h : r ≡ Size n) where
+    fits : done n ≡ y
+    fits = sym (ap paperSize h) ∙ is
 
-      pub ends-full : length old < n → Leaves (refused 2) old
-      ends-full l =
-          let z : refused 2 ≡ withRoom (done n) (length old) = search rules in
-          both (refused 2) (z ∙ ap (λ (x : Answer ℕ). withRoom x (length old)) fits) refl
+    pub full-answer : length old < n → refused 2 ≡ withRoom y (length old)
+    full-answer l =
+        let z : refused 2 ≡ withRoom (done n) (length old) = search rules in
+        z ∙ ap (λ (x : Answer ℕ). withRoom x (length old)) fits
 
-      pub ends-written : (new : List ℕ) → n ≤ length old → n ≡ length bytes → new ≡ sets old 0 bytes → Leaves (done n) new
-      ends-written new l s e =
-          let z : done n ≡ withRoom (done n) (length old) = search rules in
-          both (done n) (z ∙ ap (λ (x : Answer ℕ). withRoom x (length old)) fits) (e ∙ sets-overlay old bytes (omega arith))
+    pub full-bytes : length old < n → old ≡ written (withRoom y (length old)) bytes old
+    full-bytes l = after (refused 2) (full-answer l) refl
 
-pub ruleset writer-laws = (ends-refused, ends-full, ends-written)
+    pub written-answer : n ≤ length old → done n ≡ withRoom y (length old)
+    written-answer l =
+        let z : done n ≡ withRoom (done n) (length old) = search rules in
+        z ∙ ap (λ (x : Answer ℕ). withRoom x (length old)) fits
+
+    pub written-bytes : (new : List ℕ) → n ≤ length old → n ≡ length bytes → new ≡ sets old 0 bytes → new ≡ written (withRoom y (length old)) bytes old
+    written-bytes new l s e = after (done n) (written-answer l) (e ∙ sets-overlay old bytes (omega arith))
+
+pub ruleset writer-laws = (refused-answer, refused-bytes, full-answer, full-bytes, written-answer, written-bytes)
