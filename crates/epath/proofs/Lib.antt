@@ -8,3 +8,6 @@ pub mod Held
 pub mod SizeLaws
 pub mod WriteLaws
 pub mod PathLaws
+pub mod RoundTrip
+pub mod Theorems
+pub mod Exact

@@ -1,0 +1,221 @@
+-- What a user may rely on of paths, said of what the functions answer and leave: even length, joining, read back, written back. Assumes nothing.
+use Prim.Native.Nat.{ℕ, zero, suc, _+_, _*_, _-_, _%_, _≤_, _<_}
+use mathlib.Core.Path.{_≡_, refl, sym, ap, _∙_, subst}
+use mathlib.Core.List.{List, [], _∷_, _++_, map}
+use mathlib.Core.Bool.{Bool, true, false}
+use native.Mathlib.Nat.{zero-add}
+use native.Mathlib.Omega.{arith}
+use lib.ListN.{length, take, drop, length-append, length-replicate, length-map}
+use lib.Seq.{sets, sets-eq, take-append-seam, length-take-le}
+use lib.Dec.{leb}
+use Rattle.wire.specs.Numbers.{Bytes}
+use Rattle.wire.specs.Parts.{overlay}
+use Rattle.wire.specs.Answers.{Answer, done, refused, paperCount, Rule, over, judged, plus, withRoom, written}
+use Rattle.wire.specs.Folds.{sizes}
+use Rattle.wire.proofs.Rules.{never, all-keep}
+use Rattle.wire.proofs.Answers.{room-kept, room-was}
+use Rattle.wire.proofs.Stores.{part-length}
+use Rattle.wire.proofs.Folds.{sizes-append, joined-append}
+use Rattle.epath.specs.Limits.{maxSegments, maxSymbol, maxLink, symbolCode, classCode, instanceCode, attributeCode, elementCode}
+use Rattle.epath.specs.Segments.{Seg, symbol, class, instance, attribute, element, port, pick, logical, pad, padOf, padded, portHead, encodeSeg, encode, Fine, AllFine, norm}
+use Rattle.epath.specs.Lists.{meaning, slotsOf, segs, segsOf, blank, blanks, pathOf, startOf, lenOf}
+use Rattle.epath.specs.Writes.{segmentRules, segmentSize, pathSize, Good, AllGoodIn}
+use Rattle.epath.specs.Paths.{walk, countOf, listOf, PathFound, readPath, sees, parsePath}
+use Rattle.epath.specs.declared.Segment.{Segment}
+use Rattle.epath.specs.declared.Segment.the-variants.{Symbol, Class, Instance, Attribute, Element, Port}
+use Rattle.epath.specs.declared.Slot.{Slot}
+use Rattle.epath.specs.declared.Path.{Path}
+use Rattle.epath.proofs.SizeLaws.{length-padded, keeps-inside}
+use Rattle.epath.proofs.PathLaws.{sizeIn, PathSized, path-sized}
+use Rattle.epath.proofs.Held.{AllHeld, all-held}
+use Rattle.epath.proofs.RoundTrip.{Written, read-of-written, written-of-read}
+
+-- ---- every encoding has even length
+
+pad-evens : (n r : ℕ) → n % 2 ≡ r → (n + length (padOf r)) % 2 ≡ 0
+pad-evens n zero h = omega arith
+pad-evens n (suc r) h = omega arith
+
+padded-evens : (xs : List ℕ) → length (padded xs) % 2 ≡ 0
+padded-evens xs = ap (λ (k : ℕ). k % 2) (length-padded xs) ∙ pad-evens (length xs) (length xs % 2) refl
+
+logical-even : (code v : ℕ) → length (logical code v) % 2 ≡ 0
+logical-even code v = go (leb v 255) (leb v 65535) _ _ _ refl refl refl
+  where
+    go : (a b : Bool) (x y z : List ℕ) → length x % 2 ≡ 0 → length y % 2 ≡ 0 → length z % 2 ≡ 0 → length (pick a x (pick b y z)) % 2 ≡ 0
+    go true b x y z p q r = p
+    go false true x y z p q r = q
+    go false false x y z p q r = r
+
+pub segment-even : (x : Seg) → length (encodeSeg x) % 2 ≡ 0
+segment-even (symbol bs) = padded-evens (symbolCode ∷ length bs ∷ bs)
+segment-even (class v) = logical-even classCode v
+segment-even (instance v) = logical-even instanceCode v
+segment-even (attribute v) = logical-even attributeCode v
+segment-even (element v) = logical-even elementCode v
+segment-even (port p link) = padded-evens (portHead p (length link) ++ link)
+
+pub path-even : (xs : List Seg) → length (encode xs) % 2 ≡ 0
+path-even [] = refl
+path-even (x ∷ xs) = omega (arith, length-append (encodeSeg x) (encode xs), segment-even x, path-even xs)
+
+-- so is every size that is answered
+pub size-even : (pool : List ℕ) (p : Path) (n : ℕ) → pathSize pool p ≡ done n → n % 2 ≡ 0
+size-even pool p n h = ap (λ (k : ℕ). k % 2) (path-sized pool p n h .size) ∙ path-even (segsOf pool p)
+
+-- ---- what write_path answers and leaves
+
+abbrev pub answerOf : List ℕ → Path → List ℕ → Answer ℕ
+answerOf pool p old = withRoom (pathSize pool p) (length old)
+
+abbrev pub leftBy : List ℕ → Path → List ℕ → List ℕ
+leftBy pool p old = written (answerOf pool p old) (encode (segsOf pool p)) old
+
+-- an accepted path's bytes are its encoding
+pub left-front : (pool : List ℕ) (p : Path) (old : List ℕ) (n : ℕ) → answerOf pool p old ≡ done n → take n (leftBy pool p old) ≡ encode (segsOf pool p)
+unfolding overlay
+left-front pool p old n h =
+    let bs : List ℕ = encode (segsOf pool p) in
+    let w : PathSized pool p n = path-sized pool p n (room-was (pathSize pool p) (length old) n h .0) in
+    ap (λ (y : Answer ℕ). take n (written y bs old)) h
+    ∙ ap (λ (k : ℕ). take k (bs ++ drop (length bs) old)) (w .size)
+    ∙ take-append-seam bs (drop (length bs) old)
+
+-- ---- joining: a list that is two lists end to end is written as the two end to end, over one pool
+
+segs-append : (pool : List ℕ) (a b : List Slot) → segs pool (a ++ b) ≡ segs pool a ++ segs pool b
+segs-append pool [] b = refl
+segs-append pool (x ∷ a) b = ap (λ (l : List Seg). meaning pool (x .segment) ∷ l) (segs-append pool a b)
+
+pub encode-append : (a b : List Seg) → encode (a ++ b) ≡ encode a ++ encode b
+encode-append a b = joined-append encodeSeg a b
+
+module _ (pool : List ℕ) (p q r : Path) (few : r .count ≤ maxSegments) (is : slotsOf r ≡ slotsOf p ++ slotsOf q) where
+  pub joined-bytes : encode (segsOf pool r) ≡ encode (segsOf pool p) ++ encode (segsOf pool q)
+  joined-bytes = ap (λ (l : List Slot). encode (segs pool l)) is ∙ ap encode (segs-append pool (slotsOf p) (slotsOf q)) ∙ encode-append (segsOf pool p) (segsOf pool q)
+
+  pub joined-size : (m n : ℕ) → pathSize pool p ≡ done m → pathSize pool q ≡ done n → pathSize pool r ≡ done (m + n)
+  unfolding pathSize
+  joined-size m n e f =
+      all-keep (over (r .count) maxSegments 3 ∷ []) (sizes (sizeIn pool) (slotsOf r)) (few, tt)
+      ∙ ap (sizes (sizeIn pool)) is
+      ∙ sizes-append (sizeIn pool) (slotsOf p) (slotsOf q)
+      ∙ rw (path-sized pool p m e .sum, path-sized pool q n f .sum)
+
+  -- what write_path leaves of the joined list is what it leaves of the first and then what it leaves of the second
+  pub joined-written : (m n : ℕ) (old old₁ old₂ : List ℕ) → answerOf pool p old₁ ≡ done m → answerOf pool q old₂ ≡ done n → m + n ≤ length old
+      → (answerOf pool r old ≡ done (m + n)) × (take (m + n) (leftBy pool r old) ≡ take m (leftBy pool p old₁) ++ take n (leftBy pool q old₂))
+  joined-written m n old old₁ old₂ e f g =
+      let a : answerOf pool r old ≡ done (m + n) = room-kept (pathSize pool r) (length old) (m + n) (joined-size m n (room-was (pathSize pool p) (length old₁) m e .0) (room-was (pathSize pool q) (length old₂) n f .0)) g in
+      (a, left-front pool r old (m + n) a ∙ joined-bytes ∙ rw (left-front pool p old₁ m e, left-front pool q old₂ n f))
+
+-- ---- what was written reads back
+
+-- each number is one of its type: what the code's types say of a segment
+abbrev pub Ranged : Segment → Type 0
+Ranged (Symbol y) = Unit {0}
+Ranged (Class v) = v < 65536
+Ranged (Instance v) = v < 65536
+Ranged (Attribute v) = v < 65536
+Ranged (Element v) = v < 4294967296
+Ranged (Port q) = q .port < 65536
+
+abbrev pub AllRanged : List Slot → Type 0
+AllRanged [] = Unit {0}
+AllRanged (x ∷ l) = Ranged (x .segment) × AllRanged l
+
+good-fine : (pool : List ℕ) (s : Segment) → Ranged s → Good pool s → Fine (meaning pool s)
+good-fine pool (Symbol y) r g =
+    let i = keeps-inside maxSymbol (length pool) (y .start) (y .len) g in
+    omega (arith, part-length pool (y .start) (y .len) (i .ends), i .short)
+good-fine pool (Class v) r g = r
+good-fine pool (Instance v) r g = r
+good-fine pool (Attribute v) r g = r
+good-fine pool (Element v) r g = r
+good-fine pool (Port q) r g =
+    let i = keeps-inside maxLink (length pool) (q .start) (q .len) g in
+    (r, omega (arith, part-length pool (q .start) (q .len) (i .ends), i .short))
+
+all-fine : (pool : List ℕ) (l : List Slot) → AllRanged l → AllGoodIn pool l → AllFine (segs pool l)
+all-fine pool [] r g = tt
+all-fine pool (x ∷ l) r g = (good-fine pool (x .segment) (r .0) (g .0), all-fine pool l (r .1) (g .1))
+
+length-segs : (pool : List ℕ) (l : List Slot) → length (segs pool l) ≡ length l
+length-segs pool l = simp length-map
+
+few-slots : (k m : ℕ) (l : List Slot) → k ≤ m → length (take k l) ≤ m
+few-slots zero m l h = omega arith
+few-slots (suc k) m [] h = omega arith
+few-slots (suc k) m (x ∷ l) h = omega (arith, few-slots k (m - 1) l (omega arith))
+
+-- the front of what write_path leaves is read as the same segments, an empty link as [0]
+pub write-then-read : (pool : List ℕ) (p : Path) (old : List ℕ) (n : ℕ) → AllRanged (slotsOf p) → answerOf pool p old ≡ done n
+    → parsePath (take n (leftBy pool p old)) ≡ done (map norm (segsOf pool p))
+write-then-read pool p old n r h =
+    let w : PathSized pool p n = path-sized pool p n (room-was (pathSize pool p) (length old) n h .0) in
+    let l : length (segsOf pool p) ≤ maxSegments = omega (arith, length-segs pool (slotsOf p), few-slots (p .count) maxSegments (p .slots) (w .few)) in
+    ap parsePath (left-front pool p old n h) ∙ read-of-written (segsOf pool p) (all-fine pool (slotsOf p) r (w .good)) l
+
+-- ---- what was read writes back
+
+held-good : (s : List ℕ) (x : Segment) → startOf x + lenOf x ≤ length s → Fine (meaning s x) → Good s x
+held-good s (Symbol y) h f =
+    let l : length (take (y .len) (drop (y .start) s)) ≡ y .len = part-length s (y .start) (y .len) (omega arith) in
+    (omega arith, (omega arith, (omega arith, tt)))
+held-good s (Class v) h f = tt
+held-good s (Instance v) h f = tt
+held-good s (Attribute v) h f = tt
+held-good s (Element v) h f = tt
+held-good s (Port q) h f =
+    let l : length (take (q .len) (drop (q .start) s)) ≡ q .len = part-length s (q .start) (q .len) (omega arith) in
+    let m = f .1 in
+    (omega arith, (omega arith, (omega arith, tt)))
+
+all-good : (s : List ℕ) (l : List Slot) → AllHeld (length s) l → AllFine (segs s l) → AllGoodIn s l
+all-good s [] h f = tt
+all-good s (x ∷ l) h f = (held-good s (x .segment) (h .0) (f .0), all-good s l (h .1) (f .1))
+
+good-sizes : (s : List ℕ) (l : List Slot) → AllGoodIn s l → sizes (sizeIn s) l ≡ done (length (encode (segs s l)))
+unfolding segmentSize
+good-sizes s [] g = refl
+good-sizes s (x ∷ l) g =
+    let bs : List ℕ = encodeSeg (meaning s (x .segment)) in
+    ap (λ (y : Answer ℕ). plus y (sizes (sizeIn s) l)) (all-keep (segmentRules (length s) (x .segment)) (done (length bs)) (g .0))
+    ∙ ap (λ (y : Answer ℕ). plus (done (length bs)) y) (good-sizes s l (g .1))
+    ∙ ap done (sym (length-append bs (encode (segs s l))))
+
+-- a list in its slots
+slots-are : (l : List Slot) → length l ≤ maxSegments → slotsOf (pathOf l) ≡ l
+slots-are l h =
+    ap (take (length l)) (sets-eq l blanks 0 (rw (length-replicate maxSegments blank) (omega arith)))
+    ∙ take-append-seam l (drop (0 + length l) blanks)
+
+-- a list that is good is sized as its encoding is long
+good-size : (s : List ℕ) (l : List Slot) → length l ≤ maxSegments → AllGoodIn s l → pathSize s (pathOf l) ≡ done (length (encode (segs s l)))
+unfolding pathSize
+good-size s l few g =
+    all-keep (over (length l) maxSegments 3 ∷ []) (sizes (sizeIn s) (slotsOf (pathOf l))) (few, tt)
+    ∙ ap (sizes (sizeIn s)) (slots-are l few)
+    ∙ good-sizes s l g
+
+-- what read_path hands out as a list is written as the input, and nothing of it is refused
+pub record Again (s : List ℕ) (p : Path) : Type 0 where
+  pub size : pathSize s p ≡ done (length s)
+  pub bytes : encode (segsOf s p) ≡ s
+
+pub read-then-write : (s : List ℕ) (p : Path) (n : ℕ) → Bytes s → readPath s ≡ record { answer = done n; path = p } → Again s p
+unfolding readPath
+read-then-write s p n b h = go (walk maxSegments s 0) refl (all-held maxSegments s 0 b) (ap (λ (x : PathFound). x .answer) h) (ap (λ (x : PathFound). x .path) h)
+  where
+    go : (w : Answer (List Slot)) → walk maxSegments s 0 ≡ w → AllHeld (length s) (listOf (walk maxSegments s 0)) → countOf (walk maxSegments s 0) ≡ done n → pathOf (listOf (walk maxSegments s 0)) ≡ p → Again s p
+    go (refused k) e a c q = never (sym (ap countOf e) ∙ c)
+    go (done l) e a c q =
+        let w : Written maxSegments s (segs s l) = written-of-read s (segs s l) b (ap (sees s) e) in
+        let few : length l ≤ maxSegments = omega (arith, w .few, length-segs s l) in
+        let held : AllHeld (length s) l = subst (λ (x : Answer (List Slot)). AllHeld (length s) (listOf x)) e a in
+        let d : pathOf l ≡ p = ap (λ (x : Answer (List Slot)). pathOf (listOf x)) (sym e) ∙ q in
+        rw (← d)
+        (record {
+          size = good-size s l few (all-good s l held (w .fine)) ∙ ap (λ (t : List ℕ). done (length t)) (sym (w .bytes));
+          bytes = ap (λ (t : List Slot). encode (segs s t)) (slots-are l few) ∙ sym (w .bytes);
+        })
