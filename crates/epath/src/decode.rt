@@ -302,10 +302,10 @@ fn segment_at(s: &[u8], at: usize) -> SegmentRead
 pub fn check_path(s: &[u8]) -> Counted
     ensures { λ r. ⌜ paperCount r ≡ checkPath (now (s .entry)) ⌝ }
 {
-    let mut count: usize = 0;
+    let mut seen: usize = 0;
     let mut at: usize = 0;
     while at < s.len() {
-        if count == crate::MAX_SEGMENTS {
+        if seen == crate::MAX_SEGMENTS {
             return Counted::Refused(Refusal::Limit);
         }
         match segment_at(s, at) {
@@ -316,9 +316,9 @@ pub fn check_path(s: &[u8]) -> Counted
                 return Counted::Refused(e);
             }
         }
-        count += 1;
+        seen += 1;
     }
-    Counted::Count(count)
+    Counted::Count(seen)
 }
 
 // A refusal beside a list that holds nothing.
@@ -341,15 +341,15 @@ pub fn read_path(s: &[u8]) -> PathRead
     };
     let mut slots = [blank; crate::MAX_SEGMENTS];
     let mut count: usize = 0;
-    let mut at: usize = 0;
-    while at < s.len() {
+    let mut place: usize = 0;
+    while place < s.len() {
         if count == crate::MAX_SEGMENTS {
             return no_path(Refusal::Limit);
         }
-        match segment_at(s, at) {
+        match segment_at(s, place) {
             SegmentRead::Found(x, next) => {
                 slots[count] = Slot { segment: x };
-                at = next;
+                place = next;
             }
             SegmentRead::Refused(e) => {
                 return no_path(e);

@@ -301,13 +301,13 @@ fn encode_path(p: Path, pool: &[u8], out: &mut [u8])
 {
     let count = p.count;
     let mut at: usize = 0;
-    let mut i: usize = 0;
-    while i < count {
-        let slot = p.slots[i];
+    let mut k: usize = 0;
+    while k < count {
+        let slot = p.slots[k];
         let segment = slot.segment;
         let n = encode_segment(segment, pool, &mut out[at..]);
         at += n;
-        i += 1;
+        k += 1;
     }
 }
 
@@ -337,12 +337,12 @@ pub fn write_path(p: Path, pool: &[u8], out: &mut [u8]) -> Wrote
 {
     match path_size(p, pool) {
         Wrote::Refused(e) => Wrote::Refused(e),
-        Wrote::Size(n) => {
-            if out.len() < n {
+        Wrote::Size(size) => {
+            if out.len() < size {
                 return Wrote::Refused(Refusal::Room);
             }
             encode_path(p, pool, out);
-            Wrote::Size(n)
+            Wrote::Size(size)
         }
     }
 }

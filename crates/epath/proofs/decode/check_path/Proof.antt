@@ -2,8 +2,8 @@
 --: use Rattle.epath.proofs.Walks.{Counting, counting-laws}
 --: use Prim.Native.Nat.{_-_}
 --: use Rattle.epath.specs.Limits.{maxSegments}
---: Inv-loop = Counting s count at
---: μ-loop = maxSegments - count
+--: Inv-loop = Counting s seen at
+--: μ-loop = maxSegments - seen
 --: * = search (counting-laws, needs) fits 5000
 use Rattle.epath.proofs.Walks.{Counting, counting-laws}
 use Prim.Native.Nat.{_-_}
@@ -13,10 +13,10 @@ use borrow.Author.Needs.{needs}
 use Rattle.epath.proofs.decode.check_path.Tie as tie
 
 abbrev Inv-loop : tie.InvT-loop
-Inv-loop s count₀ at₀ count at = Counting s count at
+Inv-loop s seen₀ at₀ seen at = Counting s seen at
 
 abbrev μ-loop : tie.MeasureT-loop
-μ-loop s count₀ at₀ count at = maxSegments - count
+μ-loop s seen₀ at₀ seen at = maxSegments - seen
 
 loop-holds : tie.Need-loop-holds Inv-loop μ-loop
 loop-holds c = search (counting-laws, needs) fits 5000
@@ -36,8 +36,8 @@ enum-known-e c = search (counting-laws, needs) fits 5000
 returns-2 : tie.Need-returns-2 Inv-loop μ-loop
 returns-2 c = search (counting-laws, needs) fits 5000
 
-add-count : tie.Need-add-count Inv-loop μ-loop
-add-count c = search (counting-laws, needs) fits 5000
+add-seen : tie.Need-add-seen Inv-loop μ-loop
+add-seen c = search (counting-laws, needs) fits 5000
 
 loop-less : tie.Need-loop-less Inv-loop μ-loop
 loop-less c = search (counting-laws, needs) fits 5000
@@ -60,7 +60,7 @@ check-path-spec =
     enum-known-next
     enum-known-e
     returns-2
-    add-count
+    add-seen
     loop-less
     loop-again
     returns-3)

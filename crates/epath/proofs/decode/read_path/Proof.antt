@@ -2,7 +2,7 @@
 --: use Rattle.epath.proofs.Walks.{Filling, filling-laws}
 --: use Prim.Native.Nat.{_-_}
 --: use Rattle.epath.specs.Limits.{maxSegments}
---: Inv-loop = Filling s slots count at
+--: Inv-loop = Filling s slots count place
 --: μ-loop = maxSegments - count
 --: * = search (filling-laws, needs) fits 5000
 use Rattle.epath.proofs.Walks.{Filling, filling-laws}
@@ -13,10 +13,10 @@ use borrow.Author.Needs.{needs}
 use Rattle.epath.proofs.decode.read_path.Tie as tie
 
 abbrev Inv-loop : tie.InvT-loop
-Inv-loop s slots₀ count₀ at₀ slots count at = Filling s slots count at
+Inv-loop s slots₀ count₀ place₀ slots count place = Filling s slots count place
 
 abbrev μ-loop : tie.MeasureT-loop
-μ-loop s slots₀ count₀ at₀ slots count at = maxSegments - count
+μ-loop s slots₀ count₀ place₀ slots count place = maxSegments - count
 
 loop-holds : tie.Need-loop-holds Inv-loop μ-loop
 loop-holds c = search (filling-laws, needs) fits 5000

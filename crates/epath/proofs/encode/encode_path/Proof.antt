@@ -4,8 +4,8 @@
 --: use lib.ListN.{length, length-map}
 --: use Rattle.epath.specs.Limits.{maxSegments}
 --: use Rattle.epath.proofs.PathLaws.{Filing, filing-laws}
---: Inv-loop = Filing pool p out₀ out at i
---: μ-loop = count - i
+--: Inv-loop = Filing pool p out₀ out at k
+--: μ-loop = count - k
 --: + full : (c : tie.Start Inv-loop μ-loop) → length (c .args .t1 .slots) ≡ maxSegments
 --: + full c = simp length-map at (c .good .0 .1 .1 .0 .1 .0 .1)
 --: * = search (filing-laws, needs, full ({start})) fits 5000
@@ -19,10 +19,10 @@ use borrow.Author.Needs.{needs}
 use Rattle.epath.proofs.encode.encode_path.Tie as tie
 
 abbrev Inv-loop : tie.InvT-loop
-Inv-loop pool out₀ p count at₀ i₀ out at i = Filing pool p out₀ out at i
+Inv-loop pool out₀ p count at₀ k₀ out at k = Filing pool p out₀ out at k
 
 abbrev μ-loop : tie.MeasureT-loop
-μ-loop pool out₀ p count at₀ i₀ out at i = count - i
+μ-loop pool out₀ p count at₀ k₀ out at k = count - k
 
 full : (c : tie.Start Inv-loop μ-loop) → length (c .args .t1 .slots) ≡ maxSegments
 full c = simp length-map at (c .good .0 .1 .1 .0 .1 .0 .1)
@@ -51,8 +51,8 @@ encode-segment-requires c κs = search (filing-laws, needs, full (c .before .bef
 add-at : tie.Need-add-at Inv-loop μ-loop
 add-at c = search (filing-laws, needs, full (c .before .before .before .before .before .before .before .before .before)) fits 5000
 
-add-i : tie.Need-add-i Inv-loop μ-loop
-add-i c = search (filing-laws, needs, full (c .before .before .before .before .before .before .before .before .before)) fits 5000
+add-k : tie.Need-add-k Inv-loop μ-loop
+add-k c = search (filing-laws, needs, full (c .before .before .before .before .before .before .before .before .before)) fits 5000
 
 loop-less : tie.Need-loop-less Inv-loop μ-loop
 loop-less c = search (filing-laws, needs, full (c .before .before .before .before .before .before .before .before .before)) fits 5000
@@ -80,7 +80,7 @@ encode-path-spec =
     part-encode-segment-end
     encode-segment-requires
     add-at
-    add-i
+    add-k
     loop-less
     loop-again
     same-length

@@ -14,8 +14,8 @@ path-size-requires c κs = search needs
 enum-known-e : tie.Need-enum-known-e
 enum-known-e c = search needs
 
-enum-known-n : tie.Need-enum-known-n
-enum-known-n c = search needs
+enum-known-size : tie.Need-enum-known-size
+enum-known-size c = search needs
 
 returns : tie.Need-returns
 returns c = search (writer-laws, path-laws, needs) fits 5000
@@ -38,7 +38,7 @@ write-path-spec =
     (tie.spec
     path-size-requires
     enum-known-e
-    enum-known-n
+    enum-known-size
     returns
     encode-path-requires
     returns-2

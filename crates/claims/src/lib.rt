@@ -1,0 +1,1 @@
+// Nothing to run: proofs/Claims.antt lists what is claimed of every public function.
