@@ -19,8 +19,17 @@ use Rattle.epath.specs.declared.decode.Form.{Form}
 use Rattle.epath.specs.declared.decode.Form.the-variants.{Port as fPort, Symbol as fSymbol, Narrow, Wide, Widest, Unknown}
 use Rattle.epath.specs.Reads.{Row, row, table, lookup, formOf, made}
 
+-- what holds of both holds of the one that is picked
+pub pick-each : {A : Type 0} (P : A → Type 0) (b : Bool) (x y : A) → P x → P y → P (pick b x y)
+pick-each P true x y p q = p
+pick-each P false x y p q = q
+
 -- ---- numbers
 module _ (code v : ℕ) where
+  -- what holds of each width of a logical segment holds of it
+  pub logical-each : (P : List ℕ → Type 0) → P (code ∷ v ∷ []) → P ((code + 1) ∷ 0 ∷ lowFirst 2 v) → P ((code + 2) ∷ 0 ∷ lowFirst 4 v) → P (logical code v)
+  logical-each P p q r = pick-each P (leb v 255) _ _ p (pick-each P (leb v 65535) _ _ q r)
+
   pub number-one : v < 256 → logical code v ≡ code ∷ v ∷ []
   number-one h = simp (le-leb v 255 (omega arith))
 

@@ -2,12 +2,10 @@
 use Prim.Native.Nat.{ℕ, zero, suc, _+_, _*_, _-_, _%_, _^_, _≤_, _<_}
 use mathlib.Core.Path.{_≡_, refl, sym, ap, _∙_, subst}
 use mathlib.Core.List.{List, [], _∷_, _++_, map}
-use mathlib.Core.Bool.{Bool, true, false}
 use native.Mathlib.Numerals.{add-one}
 use native.Mathlib.Omega.{arith}
 use lib.ListN.{length, length-append, take, drop, getD, length-map, length-drop}
 use lib.Seq.{sets, drop-cons, length-take-le, getD-take}
-use lib.Dec.{leb}
 use mir.Val.{Fits}
 use mir.Syntax.{w64}
 use Rattle.wire.specs.Answers.{Answer, done, refused, paperSize, Rule, over, judged, plus, Put}
@@ -21,13 +19,14 @@ use Rattle.wire.proofs.Answers.{Parts, plus-parts}
 use Rattle.wire.proofs.Stores.{part-length, lent-all}
 use Rattle.wire.proofs.Folds.{Adding, adding-first, adding-more, adding-stops, adding-ends, sizes-joined, Storing, storing-first, storing-fits, storing-more, storing-ends}
 use Rattle.epath.specs.Limits.{maxSegments, maxSymbol, maxLink, symbolCode, classCode, instanceCode, attributeCode, elementCode}
-use Rattle.epath.specs.Segments.{Seg, symbol, port, pick, logical, pad, padOf, padded, portHead, encodeSeg, encode}
+use Rattle.epath.specs.Segments.{Seg, symbol, port, logical, pad, padOf, padded, portHead, encodeSeg, encode}
 use Rattle.epath.specs.Lists.{meaning, slotsOf, segs, segsOf}
 use Rattle.epath.specs.Writes.{segmentSize, pathSize, Good, AllGoodIn, AllGood}
 use Rattle.epath.specs.declared.Segment.{Segment}
 use Rattle.epath.specs.declared.Segment.the-variants.{Symbol, Class, Instance, Attribute, Element, Port}
 use Rattle.epath.specs.declared.Slot.{Slot}
 use Rattle.epath.specs.declared.Path.{Path}
+use Rattle.epath.proofs.Forms.{logical-each}
 use Rattle.epath.proofs.SizeLaws.{Sized, sized, Inside, keeps-inside, head-most, length-padded}
 
 -- what the code's rules give past the end of an array of slots
@@ -47,12 +46,7 @@ padded-short : (xs : List ℕ) (m : ℕ) → length xs ≤ m → length (padded 
 padded-short xs m h = rw (length-padded xs) (omega (arith, pad-short (length xs % 2)))
 
 logical-short : (code v : ℕ) → length (logical code v) ≤ 6
-logical-short code v = go (leb v 255) (leb v 65535) _ _ _ (omega arith) (omega arith) (omega arith)
-  where
-    go : (a b : Bool) (x y z : List ℕ) → length x ≤ 6 → length y ≤ 6 → length z ≤ 6 → length (pick a x (pick b y z)) ≤ 6
-    go true b x y z p q r = p
-    go false true x y z p q r = q
-    go false false x y z p q r = r
+logical-short code v = logical-each code v (λ l. length l ≤ 6) (omega arith) (omega arith) (omega arith)
 
 good-short : (pool : List ℕ) (s : Segment) → Good pool s → length (encodeSeg (meaning pool s)) ≤ 260
 good-short pool (Symbol y) g =

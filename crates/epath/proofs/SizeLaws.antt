@@ -2,7 +2,7 @@
 use Prim.Native.Nat.{ℕ, zero, suc, _+_, _*_, _-_, _%_, _^_, _≤_, _<_}
 use mathlib.Core.Path.{_≡_, refl, sym, ap, _∙_}
 use mathlib.Core.List.{List, [], _∷_, _++_}
-use mathlib.Core.Bool.{Bool, true, false}
+use mathlib.Core.Logic.{_⊎_, ⊎-elim}
 use native.Mathlib.Nat.{add-zero}
 use native.Mathlib.Omega.{arith}
 use lib.ListN.{length, length-append}
@@ -17,36 +17,37 @@ use Rattle.wire.specs.declared.Refusal.{Refusal}
 use Rattle.wire.specs.declared.Wrote.{Wrote}
 use Rattle.wire.specs.declared.Wrote.the-variants.{Size, Refused}
 use Rattle.wire.proofs.Rules.{rules, all-were, all-keep, same-refusal, never}
+use Rattle.wire.proofs.Numbers.{below-or}
 use Rattle.wire.proofs.Stores.{part-length}
 use Rattle.epath.specs.Limits.{maxSymbol, maxLink, nearPort, classCode, instanceCode, attributeCode, elementCode, symbolCode}
-use Rattle.epath.specs.Segments.{Seg, symbol, port, pick, logical, pad, padOf, padded, portHead, encodeSeg}
+use Rattle.epath.specs.Segments.{Seg, symbol, port, logical, pad, padOf, padded, portHead, encodeSeg}
 use Rattle.epath.specs.Lists.{meaning}
 use Rattle.epath.specs.Writes.{partRules, segmentRules, segmentSize, Good}
 use Rattle.epath.specs.declared.Segment.{Segment}
 use Rattle.epath.specs.declared.Segment.the-variants.{Symbol, Class, Instance, Attribute, Element, Port}
 use Rattle.epath.specs.declared.PortSegment.{PortSegment}
 use Rattle.epath.specs.declared.SymbolSegment.{SymbolSegment}
-use Rattle.epath.proofs.Forms.{head-short, head-long, head-escaped, head-both}
+use Rattle.epath.proofs.Forms.{pick-each, head-short, head-long, head-escaped, head-both}
 
 -- ---- logical segments
-module _ (code v : ℕ) where
-  pub logical-narrow : v ≤ 255 → 2 ≡ length (logical code v)
-  logical-narrow h = simp (le-leb v 255 h)
+pub logical-narrow : (code v : ℕ) → v ≤ 255 → 2 ≡ length (logical code v)
+logical-narrow code v h = simp (le-leb v 255 h)
 
-  pub logical-wide : 255 < v → v ≤ 65535 → 4 ≡ length (logical code v)
-  logical-wide h l = simp (lt-leb v 255 h, le-leb v 65535 l)
+pub logical-wide : (code v : ℕ) → 255 < v → v ≤ 65535 → 4 ≡ length (logical code v)
+logical-wide code v h l = simp (lt-leb v 255 h, le-leb v 65535 l)
 
-  pub logical-widest : 65535 < v → 6 ≡ length (logical code v)
-  logical-widest h = simp (lt-leb v 255 (omega arith), lt-leb v 65535 h)
+pub logical-widest : (code v : ℕ) → 65535 < v → 6 ≡ length (logical code v)
+logical-widest code v h = simp (lt-leb v 255 (omega arith), lt-leb v 65535 h)
 
-  -- the size does not depend on the code
-  pub logical-any : length (logical 0 v) ≡ length (logical code v)
-  logical-any = go (leb v 255) (leb v 65535) _ _ _ _ _ _ refl refl refl
-    where
-      go : (a b : Bool) (x y z x′ y′ z′ : List ℕ) → length x ≡ length x′ → length y ≡ length y′ → length z ≡ length z′ → length (pick a x (pick b y z)) ≡ length (pick a x′ (pick b y′ z′))
-      go true b x y z x′ y′ z′ p q r = p
-      go false true x y z x′ y′ z′ p q r = q
-      go false false x y z x′ y′ z′ p q r = r
+-- the size does not depend on the code
+pub logical-any : (code v : ℕ) → length (logical 0 v) ≡ length (logical code v)
+logical-any code v = ⊎-elim
+    (λ (h : 255 < v). ⊎-elim
+    (λ (l : 65535 < v). sym (logical-widest 0 v l) ∙ logical-widest code v l)
+    (λ (l : v ≤ 65535). sym (logical-wide 0 v h l) ∙ logical-wide code v h l)
+    (below-or 65535 v))
+    (λ (h : v ≤ 255). sym (logical-narrow 0 v h) ∙ logical-narrow code v h)
+    (below-or 255 v)
 
 pub ruleset logical-laws = (logical-narrow, logical-wide, logical-widest)
 
@@ -75,13 +76,9 @@ module _ (p n : ℕ) where
 
   -- a head has at most four bytes
   pub head-most : length (portHead p n) ≤ 4
-  head-most = go (leb p nearPort) (leb n 1) _ _ _ _ (omega arith) (omega arith) (omega arith) (omega arith)
-    where
-      go : (a b : Bool) (w x y z : List ℕ) → length w ≤ 4 → length x ≤ 4 → length y ≤ 4 → length z ≤ 4 → length (pick a (pick b w x) (pick b y z)) ≤ 4
-      go true true w x y z e f g h = e
-      go true false w x y z e f g h = f
-      go false true w x y z e f g h = g
-      go false false w x y z e f g h = h
+  head-most =
+      let P : List ℕ → Type 0 = λ l. length l ≤ 4 in
+      pick-each P (leb p nearPort) _ _ (pick-each P (leb n 1) _ _ (omega arith) (omega arith)) (pick-each P (leb n 1) _ _ (omega arith) (omega arith))
 
 pub ruleset head-laws = (head-one, head-two, head-three, head-four)
 
@@ -168,21 +165,25 @@ module _ (pool : List ℕ) (s : Segment) where
   size-port q z h e = e ∙ ap (segmentSize pool) (sym h)
 
   module _ (v n : ℕ) (e : n ≡ length (logical 0 v)) where
-    pub size-class : s ≡ Class v → done n ≡ segmentSize pool s
+    logical-sized : (t : Segment) (code : ℕ) → encodeSeg (meaning pool t) ≡ logical code v → segmentRules (length pool) t ≡ [] → s ≡ t → done n ≡ segmentSize pool s
     unfolding segmentSize
-    size-class h = ap done (e ∙ logical-any classCode v) ∙ sym (all-keep [] (done (length (logical classCode v))) tt) ∙ ap (segmentSize pool) (sym h)
+    logical-sized t code is free h =
+        ap done (e ∙ logical-any code v ∙ ap length (sym is))
+        ∙ sym (all-keep [] (done (length (encodeSeg (meaning pool t)))) tt)
+        ∙ ap (λ (rs : List Rule). judged rs (done (length (encodeSeg (meaning pool t))))) (sym free)
+        ∙ ap (segmentSize pool) (sym h)
+
+    pub size-class : s ≡ Class v → done n ≡ segmentSize pool s
+    size-class h = logical-sized (Class v) classCode refl refl h
 
     pub size-instance : s ≡ Instance v → done n ≡ segmentSize pool s
-    unfolding segmentSize
-    size-instance h = ap done (e ∙ logical-any instanceCode v) ∙ sym (all-keep [] (done (length (logical instanceCode v))) tt) ∙ ap (segmentSize pool) (sym h)
+    size-instance h = logical-sized (Instance v) instanceCode refl refl h
 
     pub size-attribute : s ≡ Attribute v → done n ≡ segmentSize pool s
-    unfolding segmentSize
-    size-attribute h = ap done (e ∙ logical-any attributeCode v) ∙ sym (all-keep [] (done (length (logical attributeCode v))) tt) ∙ ap (segmentSize pool) (sym h)
+    size-attribute h = logical-sized (Attribute v) attributeCode refl refl h
 
     pub size-element : s ≡ Element v → done n ≡ segmentSize pool s
-    unfolding segmentSize
-    size-element h = ap done (e ∙ logical-any elementCode v) ∙ sym (all-keep [] (done (length (logical elementCode v))) tt) ∙ ap (segmentSize pool) (sym h)
+    size-element h = logical-sized (Element v) elementCode refl refl h
 
 pub ruleset segment-laws = (size-symbol, size-port, size-class, size-instance, size-attribute, size-element)
 

@@ -2,12 +2,10 @@
 use Prim.Native.Nat.{ℕ, zero, suc, _+_, _*_, _-_, _%_, _≤_, _<_}
 use mathlib.Core.Path.{_≡_, refl, sym, ap, _∙_, subst}
 use mathlib.Core.List.{List, [], _∷_, _++_, map}
-use mathlib.Core.Bool.{Bool, true, false}
 use native.Mathlib.Nat.{zero-add}
 use native.Mathlib.Omega.{arith}
 use lib.ListN.{length, take, drop, length-append, length-replicate, length-map}
 use lib.Seq.{sets, sets-eq, take-append-seam, length-take-le}
-use lib.Dec.{leb}
 use Rattle.wire.specs.Numbers.{Bytes}
 use Rattle.wire.specs.Parts.{overlay}
 use Rattle.wire.specs.Answers.{Answer, done, refused, paperCount, Rule, over, judged, plus, withRoom, written}
@@ -17,7 +15,7 @@ use Rattle.wire.proofs.Answers.{room-kept, room-was}
 use Rattle.wire.proofs.Stores.{part-length}
 use Rattle.wire.proofs.Folds.{sizes-append, joined-append}
 use Rattle.epath.specs.Limits.{maxSegments, maxSymbol, maxLink, symbolCode, classCode, instanceCode, attributeCode, elementCode}
-use Rattle.epath.specs.Segments.{Seg, symbol, class, instance, attribute, element, port, pick, logical, pad, padOf, padded, portHead, encodeSeg, encode, Fine, AllFine, norm}
+use Rattle.epath.specs.Segments.{Seg, symbol, class, instance, attribute, element, port, logical, pad, padOf, padded, portHead, encodeSeg, encode, Fine, AllFine, norm}
 use Rattle.epath.specs.Lists.{meaning, slotsOf, segs, segsOf, blank, blanks, pathOf, startOf, lenOf}
 use Rattle.epath.specs.Writes.{segmentRules, segmentSize, pathSize, Good, AllGoodIn}
 use Rattle.epath.specs.Paths.{walk, countOf, listOf, PathFound, readPath, sees, parsePath}
@@ -25,6 +23,7 @@ use Rattle.epath.specs.declared.Segment.{Segment}
 use Rattle.epath.specs.declared.Segment.the-variants.{Symbol, Class, Instance, Attribute, Element, Port}
 use Rattle.epath.specs.declared.Slot.{Slot}
 use Rattle.epath.specs.declared.Path.{Path}
+use Rattle.epath.proofs.Forms.{logical-each}
 use Rattle.epath.proofs.SizeLaws.{length-padded, keeps-inside}
 use Rattle.epath.proofs.PathLaws.{sizeIn, PathSized, path-sized}
 use Rattle.epath.proofs.Held.{AllHeld, all-held}
@@ -40,12 +39,7 @@ padded-evens : (xs : List ℕ) → length (padded xs) % 2 ≡ 0
 padded-evens xs = ap (λ (k : ℕ). k % 2) (length-padded xs) ∙ pad-evens (length xs) (length xs % 2) refl
 
 logical-even : (code v : ℕ) → length (logical code v) % 2 ≡ 0
-logical-even code v = go (leb v 255) (leb v 65535) _ _ _ refl refl refl
-  where
-    go : (a b : Bool) (x y z : List ℕ) → length x % 2 ≡ 0 → length y % 2 ≡ 0 → length z % 2 ≡ 0 → length (pick a x (pick b y z)) % 2 ≡ 0
-    go true b x y z p q r = p
-    go false true x y z p q r = q
-    go false false x y z p q r = r
+logical-even code v = logical-each code v (λ l. length l % 2 ≡ 0) refl refl refl
 
 pub segment-even : (x : Seg) → length (encodeSeg x) % 2 ≡ 0
 segment-even (symbol bs) = padded-evens (symbolCode ∷ length bs ∷ bs)

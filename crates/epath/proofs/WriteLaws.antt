@@ -39,17 +39,14 @@ module _ (code v : ℕ) (old a b : List ℕ) where
       put-is z refl (rw (f, e))
 
   module _ (c : List ℕ) where
-    wide : 255 < v → v ≤ 65535 → a ≡ set old 0 (code + 1) → b ≡ set a 1 0 → c ≡ sets b 2 (lowFirst 2 v) → Put (logical code v) old 4 c
-    wide h l e f g =
+    pub stored-wide : 255 < v → v ≤ 65535 → a ≡ set old 0 (code + 1) → b ≡ set a 1 0 → c ≡ sets b 2 (lowFirst 2 v) → Put (logical code v) old 4 c
+    stored-wide h l e f g =
         let z : (code + 1) ∷ 0 ∷ lowFirst 2 v ≡ logical code v = simp (lt-leb v 255 h, le-leb v 65535 l) in
         put-is z refl (rw (g, f, e))
 
-    pub stored-wide : 255 < v → v ≤ 65535 → a ≡ set old 0 (code + 1) → b ≡ set a 1 0 → c ≡ sets b 2 (lowFirst 2 v) → Put (logical code v) old 4 c
-    stored-wide h l e f g = wide h l e f g
-
     -- a 16-bit value
     pub stored-short : 255 < v → Fits w16 v → a ≡ set old 0 (code + 1) → b ≡ set a 1 0 → c ≡ sets b 2 (lowFirst 2 v) → Put (logical code v) old 4 c
-    stored-short h l e f g = wide h (omega arith) e f g
+    stored-short h l e f g = stored-wide h (omega arith) e f g
 
     pub stored-widest : 65535 < v → a ≡ set old 0 (code + 2) → b ≡ set a 1 0 → c ≡ sets b 2 (lowFirst 4 v) → Put (logical code v) old 6 c
     stored-widest h e f g =

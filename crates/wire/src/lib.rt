@@ -116,7 +116,8 @@ pub fn put_byte(out: &mut [u8], at: usize, b: u8)
 pub fn put_u16(out: &mut [u8], at: usize, v: u16)
     ensures { λ _. ⌜ now (out .exit) ≡ sets (now (out .entry)) at (lowFirst 2 v) ⌝ }
 {
-    if at < out.len() {
+    let n = out.len();
+    if at < n {
         let w = v / 256;
         put_byte(out, at, (v % 256) as u8);
         put_byte(out, at + 1, (w % 256) as u8);
@@ -127,7 +128,8 @@ pub fn put_u16(out: &mut [u8], at: usize, v: u16)
 pub fn put_u32(out: &mut [u8], at: usize, v: u32)
     ensures { λ _. ⌜ now (out .exit) ≡ sets (now (out .entry)) at (lowFirst 4 v) ⌝ }
 {
-    if at < out.len() {
+    let n = out.len();
+    if at < n {
         let w = v / 65536;
         put_u16(out, at, (v % 65536) as u16);
         put_u16(out, at + 2, (w % 65536) as u16);
