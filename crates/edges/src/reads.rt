@@ -110,18 +110,22 @@ pub fn codes() {
     show::end();
 }
 
+// A path by both readers.
+fn ask(s: &[u8]) {
+    lists::check(s);
+    lists::read(s);
+}
+
 pub fn paths() {
     show::heading(b"Paths; a start is a place in the whole input");
-    lists::check(b"");
-    lists::read(b"");
-    lists::back(b"");
-    let a = b"\x20\x06\x24\x01\x01\x05\x91\x05Flow1\x00\x28\x07";
-    lists::check(a);
-    lists::read(a);
+    let none: &[u8] = b"";
+    ask(none);
+    lists::back(none);
+    let a: &[u8] = b"\x20\x06\x24\x01\x01\x05\x91\x05Flow1\x00\x28\x07";
+    ask(a);
     lists::back(a);
-    let b = b"\x1F\x02\x00\x0F\x41\x42\x12\x03\x0A\x0B\x0C\x00\x30\x07\x91\x00";
-    lists::check(b);
-    lists::read(b);
+    let b: &[u8] = b"\x1F\x02\x00\x0F\x41\x42\x12\x03\x0A\x0B\x0C\x00\x30\x07\x91\x00";
+    ask(b);
     lists::back(b);
     cases::read_from(a, 4);
     cases::read_from(a, 6);
@@ -131,16 +135,11 @@ pub fn paths() {
 
 pub fn refusals() {
     show::heading(b"A refused path comes with a list that holds nothing");
-    lists::check(b"\x20\x06\x32");
-    lists::read(b"\x20\x06\x32");
-    lists::check(b"\x20\x06\x24");
-    lists::read(b"\x20\x06\x24");
-    lists::check(b"\x20\x06\x91\x05\x46\x6C");
-    lists::read(b"\x20\x06\x91\x05\x46\x6C");
-    lists::check(b"\x20\x06\x21\x00\x05\x00");
-    lists::read(b"\x20\x06\x21\x00\x05\x00");
-    lists::check(b"\x20\x06\x10\xFF");
-    lists::read(b"\x20\x06\x10\xFF");
+    ask(b"\x20\x06\x32");
+    ask(b"\x20\x06\x24");
+    ask(b"\x20\x06\x91\x05\x46\x6C");
+    ask(b"\x20\x06\x21\x00\x05\x00");
+    ask(b"\x20\x06\x10\xFF");
 }
 
 // Classes 0, 1, 2 and so on, in two bytes each.
@@ -151,10 +150,8 @@ fn fill(s: &mut [u8]) {
     }
 }
 
-fn ask(s: &[u8], n: usize) {
-    let part = wire::part_of(s, 0, n);
-    lists::check(part);
-    lists::read(part);
+fn ask_front(s: &[u8], n: usize) {
+    ask(wire::part_of(s, 0, n));
 }
 
 pub fn counts() {
@@ -162,12 +159,12 @@ pub fn counts() {
     let mut space = [0u8; 256];
     let s: &mut [u8] = &mut space;
     fill(s);
-    ask(s, 254);
+    ask_front(s, 254);
     lists::back(wire::part_of(s, 0, 254));
-    ask(s, 255);
-    ask(s, 256);
+    ask_front(s, 255);
+    ask_front(s, 256);
     wire::put_byte(s, 254, 0x32);
-    ask(s, 255);
+    ask_front(s, 255);
     wire::put_byte(s, 252, 0x32);
-    ask(s, 253);
+    ask_front(s, 253);
 }
