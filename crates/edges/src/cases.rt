@@ -33,7 +33,7 @@ pub fn symbol_at(start: u32, len: u32) -> Segment {
 pub fn write(x: Segment, pool: &[u8]) {
     show::words(b"write ");
     show::segment(x, pool);
-    show::words(b": ");
+    show::colon();
     let mut out = [BLANK; 300];
     let answer = epath::write_segment(x, pool, &mut out);
     show::wrote(answer, &out);
@@ -41,10 +41,8 @@ pub fn write(x: Segment, pool: &[u8]) {
 }
 
 // The size, and then what is written.
-pub fn both(x: Segment, pool: &[u8]) {
-    show::words(b"size ");
-    show::segment(x, pool);
-    show::words(b": ");
+fn answers(x: Segment, pool: &[u8]) {
+    show::colon();
     show::size(epath::segment_size(x, pool));
     show::words(b", write: ");
     let mut out = [BLANK; 300];
@@ -53,18 +51,18 @@ pub fn both(x: Segment, pool: &[u8]) {
     show::end();
 }
 
-// The same of a part of the pool that is told by its place.
+pub fn both(x: Segment, pool: &[u8]) {
+    show::words(b"size ");
+    show::segment(x, pool);
+    answers(x, pool);
+}
+
+// A part of the pool, told by its place.
 pub fn place(x: Segment, pool: &[u8]) {
     show::words(b"size ");
     show::placed(x);
     show::named(b" in a pool of ", pool.len() as u64);
-    show::words(b": ");
-    show::size(epath::segment_size(x, pool));
-    show::words(b", write: ");
-    let mut out = [BLANK; 300];
-    let answer = epath::write_segment(x, pool, &mut out);
-    show::wrote(answer, &out);
-    show::end();
+    answers(x, pool);
 }
 
 // The whole output as it is afterwards.
@@ -78,7 +76,7 @@ fn into(x: Segment, pool: &[u8], out: &mut [u8]) {
     show::words(b"write ");
     show::segment(x, pool);
     show::named(b" into ", out.len() as u64);
-    show::words(b": ");
+    show::colon();
     show::size(epath::write_segment(x, pool, out));
     output(out);
 }
@@ -111,7 +109,7 @@ pub fn rest(x: Segment, pool: &[u8], out: &mut [u8], at: usize) -> usize {
     show::words(b"write ");
     show::segment(x, pool);
     show::named(b" into the rest from ", at as u64);
-    show::words(b": ");
+    show::colon();
     let answer = epath::write_segment(x, pool, &mut out[at..]);
     show::size(answer);
     output(out);
@@ -126,7 +124,7 @@ pub fn rest(x: Segment, pool: &[u8], out: &mut [u8], at: usize) -> usize {
 pub fn read(s: &[u8]) {
     show::words(b"read");
     show::whole(s);
-    show::words(b": ");
+    show::colon();
     show::found(epath::read_segment(s));
     show::end();
 }
@@ -139,7 +137,7 @@ pub fn read_from(s: &[u8], at: usize) {
     show::named(b"read from ", at as u64);
     show::words(b" of");
     show::whole(s);
-    show::words(b": ");
+    show::colon();
     show::found(epath::read_segment(&s[at..]));
     show::end();
 }

@@ -76,7 +76,7 @@ fn segments(p: Path) {
 
 // A path's size, and then what is written.
 fn both(p: Path, pool: &[u8]) {
-    show::words(b": ");
+    show::colon();
     show::size(epath::path_size(p, pool));
     show::words(b", write: ");
     let mut out = [BLANK; 300];
@@ -116,7 +116,7 @@ fn into(p: Path, pool: &[u8], out: &mut [u8]) {
     show::words(b"write_path of");
     segments(p);
     show::named(b" into ", out.len() as u64);
-    show::words(b": ");
+    show::colon();
     show::size(epath::write_path(p, pool, out));
     output(out);
 }
@@ -134,7 +134,7 @@ pub fn room(p: Path, pool: &[u8], n: usize) {
 pub fn check(s: &[u8]) {
     show::words(b"check_path");
     show::whole(s);
-    show::words(b": ");
+    show::colon();
     show::count(epath::check_path(s));
     show::end();
 }
@@ -143,7 +143,7 @@ pub fn check(s: &[u8]) {
 pub fn read(s: &[u8]) {
     show::words(b"read_path");
     show::whole(s);
-    show::words(b": ");
+    show::colon();
     let read = epath::read_path(s);
     let answer = read.answer;
     let p = read.path;

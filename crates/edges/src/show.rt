@@ -20,6 +20,11 @@ pub fn end() {
     words(b"\n");
 }
 
+// Between what is asked and the answer.
+pub fn colon() {
+    words(b": ");
+}
+
 // The name of a group of cases.
 pub fn heading(text: &[u8]) {
     words(b"\n# ");
@@ -127,18 +132,6 @@ fn symbol(part: &[u8]) {
     words(part);
 }
 
-// A segment by its bytes in the pool.
-pub fn segment(x: Segment, pool: &[u8]) {
-    match x {
-        Segment::Symbol(y) => symbol(wire::part_of(pool, y.start as usize, y.len as usize)),
-        Segment::Class(v) => named(b"class ", v as u64),
-        Segment::Instance(v) => named(b"instance ", v as u64),
-        Segment::Attribute(v) => named(b"attribute ", v as u64),
-        Segment::Element(v) => named(b"element ", v as u64),
-        Segment::Port(q) => port(q, pool),
-    }
-}
-
 fn place(start: u32, len: u32) {
     named(b" start ", start as u64);
     named(b" length ", len as u64);
@@ -164,6 +157,15 @@ pub fn placed(x: Segment) {
         Segment::Attribute(v) => named(b"attribute ", v as u64),
         Segment::Element(v) => named(b"element ", v as u64),
         Segment::Port(q) => port_place(q),
+    }
+}
+
+// A segment by its bytes in the pool.
+pub fn segment(x: Segment, pool: &[u8]) {
+    match x {
+        Segment::Symbol(y) => symbol(wire::part_of(pool, y.start as usize, y.len as usize)),
+        Segment::Port(q) => port(q, pool),
+        _ => placed(x),
     }
 }
 
