@@ -1,0 +1,44 @@
+// Words, numbers and bytes on standard output.
+
+pub fn words(text: &[u8]) {
+    io::write_all(1, text);
+}
+
+// A word and a number behind it.
+pub fn named(word: &[u8], n: u64) {
+    io::write_all(1, word);
+    io::print_decimal(1, n);
+}
+
+// A byte in two digits, with capital letters, which io::print_hex does not give.
+fn hex(b: u8) {
+    let digits = b"0123456789ABCDEF";
+    let high = wire::byte_at(digits, (b / 16) as usize);
+    let rest = wire::byte_at(digits, (b % 16) as usize);
+    io::write_all(1, &[high, rest]);
+}
+
+// Each byte in hex, with a space before it.
+pub fn bytes(s: &[u8]) {
+    for i in 0..s.len() {
+        words(b" ");
+        hex(wire::byte_at(s, i));
+    }
+}
+
+// A byte as it is where it is printable ASCII, else as \x and two digits.
+fn letter(b: u8) {
+    if 0x20 <= b && b <= 0x7E {
+        io::write_all(1, &[b]);
+        return;
+    }
+    words(b"\\x");
+    hex(b);
+}
+
+// The bytes of a symbol.
+pub fn text(s: &[u8]) {
+    for i in 0..s.len() {
+        letter(wire::byte_at(s, i));
+    }
+}
