@@ -11,26 +11,26 @@ pub const BLANK: u8 = 0xA5;
 // ---- what is asked
 
 // A port whose link is the first bytes of the pool.
-pub fn port(port: u16, len: u32) -> Segment {
+pub(crate) fn port(port: u16, len: u32) -> Segment {
     port_at(port, 0, len)
 }
 
-pub fn port_at(port: u16, start: u32, len: u32) -> Segment {
+pub(crate) fn port_at(port: u16, start: u32, len: u32) -> Segment {
     Segment::Port(PortSegment { port, start, len })
 }
 
 // A symbol that is the first bytes of the pool.
-pub fn symbol(len: u32) -> Segment {
+pub(crate) fn symbol(len: u32) -> Segment {
     symbol_at(0, len)
 }
 
-pub fn symbol_at(start: u32, len: u32) -> Segment {
+pub(crate) fn symbol_at(start: u32, len: u32) -> Segment {
     Segment::Symbol(SymbolSegment { start, len })
 }
 
 // ---- sizes and writers
 
-pub fn write(x: Segment, pool: &[u8]) {
+pub(crate) fn write(x: Segment, pool: &[u8]) {
     show::words(b"write ");
     show::segment(x, pool);
     show::colon();
@@ -51,14 +51,14 @@ fn answers(x: Segment, pool: &[u8]) {
     show::end();
 }
 
-pub fn both(x: Segment, pool: &[u8]) {
+pub(crate) fn both(x: Segment, pool: &[u8]) {
     show::words(b"size ");
     show::segment(x, pool);
     answers(x, pool);
 }
 
 // A part of the pool, told by its place.
-pub fn place(x: Segment, pool: &[u8]) {
+pub(crate) fn place(x: Segment, pool: &[u8]) {
     show::words(b"size ");
     show::placed(x);
     show::named(b" in a pool of ", pool.len() as u64);
@@ -66,7 +66,7 @@ pub fn place(x: Segment, pool: &[u8]) {
 }
 
 // The whole output as it is afterwards.
-pub fn output(out: &[u8]) {
+pub(crate) fn output(out: &[u8]) {
     show::words(b", output");
     show::whole(out);
     show::end();
@@ -82,7 +82,7 @@ fn into(x: Segment, pool: &[u8], out: &mut [u8]) {
 }
 
 // A segment into an output of n bytes.
-pub fn room(x: Segment, pool: &[u8], n: usize) {
+pub(crate) fn room(x: Segment, pool: &[u8], n: usize) {
     let mut out = [BLANK; 16];
     if n <= 16 {
         into(x, pool, &mut out[0..n]);
@@ -101,7 +101,7 @@ fn after(at: usize, n: usize, end: usize) -> usize {
 }
 
 // A segment into the rest of an output from a place on; where the next one goes.
-pub fn rest(x: Segment, pool: &[u8], out: &mut [u8], at: usize) -> usize {
+pub(crate) fn rest(x: Segment, pool: &[u8], out: &mut [u8], at: usize) -> usize {
     let end = out.len();
     if end < at {
         return at;
@@ -121,7 +121,7 @@ pub fn rest(x: Segment, pool: &[u8], out: &mut [u8], at: usize) -> usize {
 
 // ---- the reader
 
-pub fn read(s: &[u8]) {
+pub(crate) fn read(s: &[u8]) {
     show::words(b"read");
     show::whole(s);
     show::colon();
@@ -130,7 +130,7 @@ pub fn read(s: &[u8]) {
 }
 
 // What stands at a place of s.
-pub fn read_from(s: &[u8], at: usize) {
+pub(crate) fn read_from(s: &[u8], at: usize) {
     if s.len() < at {
         return;
     }

@@ -27,7 +27,7 @@ fn classes(count: usize) -> Path {
 }
 
 // The same segment so many times.
-pub fn same(x: Segment, count: usize) -> Path {
+pub(crate) fn same(x: Segment, count: usize) -> Path {
     let slot = Slot { segment: x };
     Path {
         slots: [slot; epath::MAX_SEGMENTS],
@@ -35,7 +35,7 @@ pub fn same(x: Segment, count: usize) -> Path {
     }
 }
 
-pub fn pair(x: Segment, y: Segment) -> Path {
+pub(crate) fn pair(x: Segment, y: Segment) -> Path {
     let first = Slot { segment: x };
     let second = Slot { segment: y };
     let mut slots = [second; epath::MAX_SEGMENTS];
@@ -85,21 +85,21 @@ fn both(p: Path, pool: &[u8]) {
     show::end();
 }
 
-pub fn of_classes(count: usize) {
+pub(crate) fn of_classes(count: usize) {
     show::named(b"path_size of ", count as u64);
     show::words(b" classes");
     both(classes(count), b"");
 }
 
 // So many of a part of the pool.
-pub fn of_same(x: Segment, count: usize, pool: &[u8]) {
+pub(crate) fn of_same(x: Segment, count: usize, pool: &[u8]) {
     show::named(b"path_size of ", count as u64);
     show::listed(x);
     show::named(b" in a pool of ", pool.len() as u64);
     both(same(x, count), pool);
 }
 
-pub fn of_pair(x: Segment, y: Segment, pool: &[u8]) {
+pub(crate) fn of_pair(x: Segment, y: Segment, pool: &[u8]) {
     show::words(b"path_size of");
     show::listed(x);
     show::listed(y);
@@ -107,7 +107,7 @@ pub fn of_pair(x: Segment, y: Segment, pool: &[u8]) {
     both(pair(x, y), pool);
 }
 
-pub fn of_none() {
+pub(crate) fn of_none() {
     show::words(b"path_size of blank_path");
     both(epath::blank_path(), b"");
 }
@@ -122,7 +122,7 @@ fn into(p: Path, pool: &[u8], out: &mut [u8]) {
 }
 
 // A path into an output of n bytes.
-pub fn room(p: Path, pool: &[u8], n: usize) {
+pub(crate) fn room(p: Path, pool: &[u8], n: usize) {
     let mut out = [BLANK; 16];
     if n <= 16 {
         into(p, pool, &mut out[0..n]);
@@ -131,7 +131,7 @@ pub fn room(p: Path, pool: &[u8], n: usize) {
 
 // ---- readers
 
-pub fn check(s: &[u8]) {
+pub(crate) fn check(s: &[u8]) {
     show::words(b"check_path");
     show::whole(s);
     show::colon();
@@ -140,7 +140,7 @@ pub fn check(s: &[u8]) {
 }
 
 // A refusal comes with a list that holds nothing.
-pub fn read(s: &[u8]) {
+pub(crate) fn read(s: &[u8]) {
     show::words(b"read_path");
     show::whole(s);
     show::colon();
@@ -156,7 +156,7 @@ pub fn read(s: &[u8]) {
 }
 
 // What was read is written again: the pool is the input.
-pub fn back(s: &[u8]) {
+pub(crate) fn back(s: &[u8]) {
     let read = epath::read_path(s);
     let p = read.path;
     show::words(b"write_path of that: ");

@@ -53,12 +53,14 @@ fn is_port(x: Segment) {
 }
 
 fn small() {
-    show::heading(b"default_port, blank_path and is_port");
+    show::heading(b"default_port, blank_path, is_port and EPATH_CONNECTION_MANAGER");
     cases::both(Segment::Port(epath::default_port()), b"");
     lists::of_none();
     is_port(Segment::Port(epath::default_port()));
     is_port(Segment::Class(1));
     is_port(cases::symbol(0));
+    let manager = epath::EPATH_CONNECTION_MANAGER;
+    reads::ask(&manager);
 }
 
 fn refusal(name: &[u8], e: Refusal) {

@@ -4,7 +4,7 @@ use crate::lists;
 use crate::show;
 use epath::SegmentRead;
 
-pub fn kinds() {
+pub(crate) fn kinds() {
     show::heading(b"Each kind read back; a start counts from the segment's own front");
     cases::read(b"\x20\x05");
     cases::read(b"\x21\x00\x00\x01");
@@ -21,7 +21,7 @@ pub fn kinds() {
     cases::read(b"\x91\x00");
 }
 
-pub fn ports() {
+pub(crate) fn ports() {
     show::heading(b"Ports read back, and a segment before other bytes");
     cases::read(b"\x00\x05");
     cases::read(b"\x0E\x05");
@@ -35,7 +35,7 @@ pub fn ports() {
     cases::read(b"\x20\x05\xFF\xFF");
 }
 
-pub fn short() {
+pub(crate) fn short() {
     show::heading(b"The input ends too early: 1");
     cases::read(b"");
     cases::read(b"\x20");
@@ -54,7 +54,7 @@ pub fn short() {
     cases::read(b"\x91\x01\x41");
 }
 
-pub fn forms() {
+pub(crate) fn forms() {
     show::heading(b"Not the one form: 5");
     cases::read(b"\x21\x01");
     cases::read(b"\x21\x00\x05\x00");
@@ -72,7 +72,7 @@ pub fn forms() {
     cases::read(b"\x91\x01\x41\x01");
 }
 
-pub fn limits() {
+pub(crate) fn limits() {
     show::heading(b"Link length 255: 3; after 254 the link is asked for");
     cases::read(b"\x10\xFF");
     cases::read(b"\x1F\xFF\x00\x00");
@@ -97,7 +97,7 @@ fn first_bytes() {
     }
 }
 
-pub fn codes() {
+pub(crate) fn codes() {
     show::heading(b"Unknown first byte: 4");
     cases::read(b"\x32");
     cases::read(b"\x22");
@@ -111,12 +111,12 @@ pub fn codes() {
 }
 
 // A path by both readers.
-fn ask(s: &[u8]) {
+pub(crate) fn ask(s: &[u8]) {
     lists::check(s);
     lists::read(s);
 }
 
-pub fn paths() {
+pub(crate) fn paths() {
     show::heading(b"Paths; a start is a place in the whole input");
     let none: &[u8] = b"";
     ask(none);
@@ -133,7 +133,7 @@ pub fn paths() {
     cases::read_from(b, 14);
 }
 
-pub fn refusals() {
+pub(crate) fn refusals() {
     show::heading(b"A refused path comes with a list that holds nothing");
     ask(b"\x20\x06\x32");
     ask(b"\x20\x06\x24");
@@ -154,7 +154,7 @@ fn ask_front(s: &[u8], n: usize) {
     ask(wire::part_of(s, 0, n));
 }
 
-pub fn counts() {
+pub(crate) fn counts() {
     show::heading(b"127 and 128 segments; a 128th is 3 when its first byte is met");
     let mut space = [0u8; 256];
     let s: &mut [u8] = &mut space;

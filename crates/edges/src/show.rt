@@ -12,38 +12,38 @@ const FEW: usize = 8;
 // Of a longer run of bytes only both ends are shown.
 const LINE: usize = 32;
 
-pub fn words(text: &[u8]) {
+pub(crate) fn words(text: &[u8]) {
     io::write_all(1, text);
 }
 
-pub fn end() {
+pub(crate) fn end() {
     words(b"\n");
 }
 
 // Between what is asked and the answer.
-pub fn colon() {
+pub(crate) fn colon() {
     words(b": ");
 }
 
 // The name of a group of cases.
-pub fn heading(text: &[u8]) {
+pub(crate) fn heading(text: &[u8]) {
     words(b"\n# ");
     words(text);
     end();
 }
 
-pub fn number(n: u64) {
+pub(crate) fn number(n: u64) {
     io::print_decimal(1, n);
 }
 
 // A word and a number behind it.
-pub fn named(word: &[u8], n: u64) {
+pub(crate) fn named(word: &[u8], n: u64) {
     words(word);
     number(n);
 }
 
 // A number and a word behind it.
-pub fn counted(n: usize, word: &[u8]) {
+pub(crate) fn counted(n: usize, word: &[u8]) {
     number(n as u64);
     words(word);
 }
@@ -57,19 +57,19 @@ fn hex(b: u8) {
 }
 
 // The same, with a space before it.
-pub fn byte(b: u8) {
+pub(crate) fn byte(b: u8) {
     words(b" ");
     hex(b);
 }
 
-pub fn bytes(s: &[u8]) {
+pub(crate) fn bytes(s: &[u8]) {
     for i in 0..s.len() {
         byte(wire::byte_at(s, i));
     }
 }
 
 // Of a long run only the first four and the last two.
-pub fn run(s: &[u8]) {
+pub(crate) fn run(s: &[u8]) {
     let n = s.len();
     if n <= LINE {
         bytes(s);
@@ -81,7 +81,7 @@ pub fn run(s: &[u8]) {
 }
 
 // An input or an output: it may hold nothing, and of a long one the length is told.
-pub fn whole(s: &[u8]) {
+pub(crate) fn whole(s: &[u8]) {
     let n = s.len();
     if n == 0 {
         words(b" nothing");
@@ -149,7 +149,7 @@ fn symbol_place(start: u32, len: u32) {
 }
 
 // A segment by where its bytes lie.
-pub fn placed(x: Segment) {
+pub(crate) fn placed(x: Segment) {
     match x {
         Segment::Symbol(y) => symbol_place(y.start, y.len),
         Segment::Class(v) => named(b"class ", v as u64),
@@ -161,7 +161,7 @@ pub fn placed(x: Segment) {
 }
 
 // A segment by its bytes in the pool.
-pub fn segment(x: Segment, pool: &[u8]) {
+pub(crate) fn segment(x: Segment, pool: &[u8]) {
     match x {
         Segment::Symbol(y) => symbol(wire::part_of(pool, y.start as usize, y.len as usize)),
         Segment::Port(q) => port(q, pool),
@@ -170,7 +170,7 @@ pub fn segment(x: Segment, pool: &[u8]) {
 }
 
 // A segment of a list, in brackets.
-pub fn listed(x: Segment) {
+pub(crate) fn listed(x: Segment) {
     words(b" [");
     placed(x);
     words(b"]");
@@ -178,12 +178,12 @@ pub fn listed(x: Segment) {
 
 // ---- answers
 
-pub fn refused(e: Refusal) {
+pub(crate) fn refused(e: Refusal) {
     let n = wire::refusal_number(e);
     named(b"refused ", n as u64);
 }
 
-pub fn size(answer: Wrote) {
+pub(crate) fn size(answer: Wrote) {
     match answer {
         Wrote::Refused(e) => refused(e),
         Wrote::Size(n) => counted(n, b" bytes"),
@@ -191,7 +191,7 @@ pub fn size(answer: Wrote) {
 }
 
 // A size, and as many bytes of the output.
-pub fn wrote(answer: Wrote, out: &[u8]) {
+pub(crate) fn wrote(answer: Wrote, out: &[u8]) {
     size(answer);
     match answer {
         Wrote::Refused(_) => {}
@@ -199,7 +199,7 @@ pub fn wrote(answer: Wrote, out: &[u8]) {
     }
 }
 
-pub fn count(answer: Counted) {
+pub(crate) fn count(answer: Counted) {
     match answer {
         Counted::Refused(e) => refused(e),
         Counted::Count(n) => counted(n, b" segments"),
@@ -212,7 +212,7 @@ fn front(x: Segment, n: usize) {
     counted(n, b" bytes");
 }
 
-pub fn found(answer: SegmentRead) {
+pub(crate) fn found(answer: SegmentRead) {
     match answer {
         SegmentRead::Refused(e) => refused(e),
         SegmentRead::Found(x, n) => front(x, n),

@@ -10,7 +10,7 @@ use crate::show;
 use epath::Segment;
 
 // The cards of document 01 for paths; pool is letters.
-pub fn cards(pool: &[u8]) {
+pub(crate) fn cards(pool: &[u8]) {
     show::heading(b"The cards of document 01 for paths");
     let none: &[u8] = b"";
     let slot: &[u8] = b"\x05";
@@ -29,7 +29,7 @@ pub fn cards(pool: &[u8]) {
     cases::write(port(3, 255), pool);
 }
 
-pub fn links(pool: &[u8]) {
+pub(crate) fn links(pool: &[u8]) {
     show::heading(
         b"Links of 0, 1, 2, 3, 254 and 255 bytes, at a port in the first byte and at one behind it",
     );
@@ -47,7 +47,7 @@ pub fn links(pool: &[u8]) {
     cases::both(port(15, 255), pool);
 }
 
-pub fn symbols(pool: &[u8]) {
+pub(crate) fn symbols(pool: &[u8]) {
     show::heading(b"Symbols of 0, 1, 2, 255 and 256 bytes");
     cases::both(symbol(0), pool);
     cases::both(symbol(1), pool);
@@ -56,7 +56,7 @@ pub fn symbols(pool: &[u8]) {
     cases::both(symbol(256), pool);
 }
 
-pub fn ports() {
+pub(crate) fn ports() {
     show::heading(b"Ports 0, 14, 15 and 65535");
     let slot: &[u8] = b"\x05";
     let two: &[u8] = b"AB";
@@ -70,7 +70,7 @@ pub fn ports() {
     cases::both(port(65535, 2), two);
 }
 
-pub fn values() {
+pub(crate) fn values() {
     show::heading(b"Numbers 0, 255, 256 and 65535");
     let none: &[u8] = b"";
     cases::both(Segment::Class(0), none);
@@ -87,7 +87,7 @@ pub fn values() {
     cases::both(Segment::Attribute(65535), none);
 }
 
-pub fn elements() {
+pub(crate) fn elements() {
     show::heading(b"Elements 0, 255, 256, 65535, 65536 and 4294967295");
     let none: &[u8] = b"";
     cases::both(Segment::Element(0), none);
@@ -98,7 +98,7 @@ pub fn elements() {
     cases::both(Segment::Element(4294967295), none);
 }
 
-pub fn pools(pool: &[u8]) {
+pub(crate) fn pools(pool: &[u8]) {
     show::heading(
         b"A pool's last byte, one past it, and nothing at its end and past it; 11 before 3",
     );
@@ -118,7 +118,7 @@ pub fn pools(pool: &[u8]) {
     cases::place(symbol_at(45, 256), pool);
 }
 
-pub fn link_pools(pool: &[u8]) {
+pub(crate) fn link_pools(pool: &[u8]) {
     show::heading(b"The same of links");
     let none: &[u8] = b"";
     let name: &[u8] = b"Flow1";
@@ -136,7 +136,7 @@ pub fn link_pools(pool: &[u8]) {
     cases::place(port_at(1, 46, 255), pool);
 }
 
-pub fn rooms(pool: &[u8]) {
+pub(crate) fn rooms(pool: &[u8]) {
     show::heading(b"Room: exact, one short and one more, in an output of A5; 3 before 2");
     let none: &[u8] = b"";
     let name: &[u8] = b"Flow1";
@@ -157,7 +157,7 @@ pub fn rooms(pool: &[u8]) {
     cases::room(symbol(256), pool, 2);
 }
 
-pub fn path_rooms() {
+pub(crate) fn path_rooms() {
     show::heading(
         b"The same of a path; a refused second segment leaves the first unwritten; 11 before 2",
     );
@@ -172,7 +172,7 @@ pub fn path_rooms() {
     lists::room(q, name, 0);
 }
 
-pub fn orders(pool: &[u8]) {
+pub(crate) fn orders(pool: &[u8]) {
     show::heading(
         b"127 and 128 segments into 300 bytes: the count is judged, then segments first to last, then room",
     );
@@ -187,7 +187,7 @@ pub fn orders(pool: &[u8]) {
     lists::of_pair(symbol_at(301, 0), symbol(256), pool);
 }
 
-pub fn rests() {
+pub(crate) fn rests() {
     show::heading(b"Segment by segment into the rest of one output of A5");
     let none: &[u8] = b"";
     let mut space = [BLANK; 16];

@@ -18,7 +18,7 @@ use Rattle.epath.specs.Limits.{maxSegments, maxSymbol, maxLink, symbolCo
 use Rattle.epath.specs.Segments.{Seg, symbol, class, instance, attribute, element, port, logical, pad, padOf, padded, portHead, encodeSeg, encode, Fine, AllFine, norm}
 use Rattle.epath.specs.Lists.{meaning, slotsOf, segs, segsOf, blank, blanks, pathOf, startOf, lenOf}
 use Rattle.epath.specs.Writes.{segmentRules, segmentSize, pathSize, Good, AllGoodIn}
-use Rattle.epath.specs.Paths.{walk, countOf, listOf, PathFound, readPath, sees, parsePath}
+use Rattle.epath.specs.Paths.{walk, countOf, listOf, PathFound, readPath, checkPath, sees, parsePath}
 use Rattle.epath.specs.declared.Segment.{Segment}
 use Rattle.epath.specs.declared.Segment.the-variants.{Symbol, Class, Instance, Attribute, Element, Port}
 use Rattle.epath.specs.declared.Slot.{Slot}
@@ -149,6 +149,40 @@ write-then-read pool p old n r h =
     let w : PathSized pool p n = path-sized pool p n (room-was (pathSize pool p) (length old) n h .0) in
     let l : length (segsOf pool p) ≤ maxSegments = omega (arith, length-segs pool (slotsOf p), few-slots (p .count) maxSegments (p .slots) (w .few)) in
     ap parsePath (left-front pool p old n h) ∙ read-of-written (segsOf pool p) (all-fine pool (slotsOf p) r (w .good)) l
+
+-- ---- the three readers agree
+
+-- a path that is counted is one that is read, with as many segments, at most 127
+pub record Checked (s : List ℕ) (n : ℕ) : Type 0 where
+  pub list : List Seg
+  pub is : parsePath s ≡ done list
+  pub many : length list ≡ n
+
+pub checked : (s : List ℕ) (n : ℕ) → checkPath s ≡ done n → Checked s n
+unfolding checkPath
+checked s n h = go (walk maxSegments s 0) refl
+  where
+    go : (w : Answer (List Slot)) → walk maxSegments s 0 ≡ w → Checked s n
+    go (done l) e =
+        let f : done (length l) ≡ done n = sym (ap countOf e) ∙ h in
+        let g : length l ≡ n = cc in
+        record { list = segs s l; is = ap (sees s) e; many = length-segs s l ∙ g }
+    go (refused k) e = never (sym (ap countOf e) ∙ h)
+
+pub checked-few : (s : List ℕ) (n : ℕ) → Bytes s → checkPath s ≡ done n → n ≤ maxSegments
+checked-few s n b h =
+    let c : Checked s n = checked s n h in
+    omega (arith, c .many, written-of-read s (c .list) b (c .is) .few)
+
+-- an accepted path has even length
+pub checked-even : (s : List ℕ) (n : ℕ) → Bytes s → checkPath s ≡ done n → length s % 2 ≡ 0
+checked-even s n b h =
+    let c : Checked s n = checked s n h in
+    ap (λ (t : List ℕ). length t % 2) (written-of-read s (c .list) b (c .is) .bytes) ∙ path-even (c .list)
+
+pub readers-agree : (s : List ℕ) → readPath s .answer ≡ checkPath s
+unfolding readPath checkPath
+readers-agree s = refl
 
 -- ---- what was read writes back
 

@@ -49,6 +49,9 @@ const ATTRIBUTE: u8 = 0x30;
 // The first byte of a symbol.
 const SYMBOL: u8 = 0x91;
 
+// The path for an Unconnected Send: class 6, instance 1.
+pub const EPATH_CONNECTION_MANAGER: [u8; 4] = [0x20, 0x06, 0x24, 0x01];
+
 // ---- the list
 
 // A port, and its link: len bytes of the pool from start.

@@ -1,11 +1,11 @@
 // Words, numbers and bytes on standard output.
 
-pub fn words(text: &[u8]) {
+pub(crate) fn words(text: &[u8]) {
     io::write_all(1, text);
 }
 
 // A word and a number behind it.
-pub fn named(word: &[u8], n: u64) {
+pub(crate) fn named(word: &[u8], n: u64) {
     io::write_all(1, word);
     io::print_decimal(1, n);
 }
@@ -19,16 +19,16 @@ fn hex(b: u8) {
 }
 
 // Each byte in hex, with a space before it.
-pub fn bytes(s: &[u8]) {
+pub(crate) fn bytes(s: &[u8]) {
     for i in 0..s.len() {
         words(b" ");
         hex(wire::byte_at(s, i));
     }
 }
 
-// A byte as it is where it is printable ASCII, else as \x and two digits.
+// A byte as it is where it is printable ASCII and no backslash, else as \x and two digits.
 fn letter(b: u8) {
-    if 0x20 <= b && b <= 0x7E {
+    if 0x20 <= b && b <= 0x7E && b != 0x5C {
         io::write_all(1, &[b]);
         return;
     }
@@ -37,7 +37,7 @@ fn letter(b: u8) {
 }
 
 // The bytes of a symbol.
-pub fn text(s: &[u8]) {
+pub(crate) fn text(s: &[u8]) {
     for i in 0..s.len() {
         letter(wire::byte_at(s, i));
     }

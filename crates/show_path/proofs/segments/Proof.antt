@@ -1,8 +1,10 @@
 -- `show_path::segments` is safe and ends: the measure is the turns that are left. Assumes nothing.
 --: use Prim.Native.Nat.{_-_}
+--: use Rattle.epath.specs.Limits.{maxSegments}
 --: Inv-loop = Unit {0}
---: μ-loop = 127 - i
+--: μ-loop = maxSegments - i
 use Prim.Native.Nat.{_-_}
+use Rattle.epath.specs.Limits.{maxSegments}
 use Rattle.show_path.proofs.segments.Statement.{statement}
 use borrow.Author.Needs.{needs}
 use Rattle.show_path.proofs.segments.Tie as tie
@@ -11,7 +13,7 @@ abbrev Inv-loop : tie.InvT-loop
 Inv-loop s path i₀ i = Unit {0}
 
 abbrev μ-loop : tie.MeasureT-loop
-μ-loop s path i₀ i = 127 - i
+μ-loop s path i₀ i = maxSegments - i
 
 loop-holds : tie.Need-loop-holds Inv-loop μ-loop
 loop-holds c = search needs

@@ -1,8 +1,10 @@
 -- `edges::lists::all` is safe and ends: the measure is the turns that are left. Assumes nothing.
 --: use Prim.Native.Nat.{_-_}
+--: use Rattle.epath.specs.Limits.{maxSegments}
 --: Inv-loop = Unit {0}
---: μ-loop = 127 - i
+--: μ-loop = maxSegments - i
 use Prim.Native.Nat.{_-_}
+use Rattle.epath.specs.Limits.{maxSegments}
 use Rattle.edges.proofs.lists.all.Statement.{statement}
 use borrow.Author.Needs.{needs}
 use Rattle.edges.proofs.lists.all.Tie as tie
@@ -11,7 +13,7 @@ abbrev Inv-loop : tie.InvT-loop
 Inv-loop p i₀ i = Unit {0}
 
 abbrev μ-loop : tie.MeasureT-loop
-μ-loop p i₀ i = 127 - i
+μ-loop p i₀ i = maxSegments - i
 
 loop-holds : tie.Need-loop-holds Inv-loop μ-loop
 loop-holds c = search needs
