@@ -62,10 +62,11 @@ made kInstance v = Instance v
 made kAttribute v = Attribute v
 made kElement v = Element v
 
+-- C-1.4.2: a value in one byte
 unfoldable pub readNarrow : (ℕ → Segment) → List ℕ → Answer Front
 readNarrow make t = judged (under (length t) 2 1 ∷ []) (done (front (make (getD t 1 0)) 2))
 
--- w bytes behind a zero, of which the value is `least` at least, or a narrower form would do
+-- C-1.4.2: a value in w bytes behind a zero, of which the value is `least` at least, or a narrower form would do
 unfoldable pub readWide : (ℕ → Segment) → ℕ → ℕ → List ℕ → Answer Front
 readWide make w least t =
     judged
@@ -85,13 +86,15 @@ padRules (suc r) end t = under (length t) (end + 1) 1 ∷ other (getD t end 0) 0
 unfoldable pub readPart : Segment → ℕ → List ℕ → Answer Front
 readPart x end t = judged (under (length t) end 1 ∷ padRules (end % 2) end t) (done (front x (end + end % 2)))
 
+-- C-1.4.5.2: a length byte, then as many bytes
 unfoldable pub readSymbol : List ℕ → Answer Front
 readSymbol t = judged (under (length t) 2 1 ∷ []) (readPart (Symbol (record { start = 2; len = getD t 1 0 })) (2 + getD t 1 0) t)
 
+-- C-1.4.1: a link of len bytes from `at` on
 unfoldable pub readLink : ℕ → ℕ → ℕ → List ℕ → Answer Front
 readLink p at len t = readPart (Port (record { port = p; start = at; len = len })) (at + len) t
 
--- a port of 15 or more follows the low bits 15, HIGH byte first
+-- the port is the low bits; where they are 15 it follows from `at` on, and is none that the low bits hold
 unfoldable pub readPortNumber : ℕ → ℕ → ℕ → List ℕ → Answer Front
 readPortNumber low at len t =
     elim (ltb low farPortCode) [
