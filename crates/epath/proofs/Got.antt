@@ -14,7 +14,7 @@ use Rattle.wire.specs.Numbers.{valueOf, lowFirst, Bytes}
 use Rattle.wire.specs.Answers.{Answer, done, refused, Rule, under, over, other, judged, KeepsAll}
 use Rattle.wire.proofs.Numbers.{value-low, low-value, low-length, value-small, bytes-drop, below-or, first-one, first-two}
 use Rattle.wire.proofs.Rules.{all-were, never}
-use Rattle.epath.specs.Limits.{maxSegments, maxSymbol, maxLink, maxPlace, portEnd, nearPort, farPortCode, longLink, classCode, instanceCode, elementCode, attributeCode, symbolCode}
+use Rattle.epath.specs.Limits.{maxSegments, maxSymbol, maxLink, mostBytes, maxPlace, portEnd, nearPort, farPortCode, longLink, classCode, instanceCode, elementCode, attributeCode, symbolCode}
 use Rattle.epath.specs.Segments.{Seg, symbol, class, instance, attribute, element, port, logical, pad, padOf, padded, portHead, farPort, farValue, encodeSeg, Fine, linked, norm}
 use Rattle.epath.specs.Lists.{meaning, startOf, lenOf}
 use Rattle.epath.specs.declared.decode.Kind.{Kind}
@@ -64,14 +64,14 @@ part-got t x y end n h =
 pub record Got (t : List ℕ) (x : Segment) (n : ℕ) : Type 0 where
   pub bytes : take n t ≡ encodeSeg (meaning t x)
   pub size : n ≤ length t
-  pub small : n ≤ 260
+  pub small : n ≤ mostBytes
   pub near : startOf x ≤ 4
   pub held : startOf x + lenOf x ≤ length t
   pub fine : Fine (meaning t x)
   pub normal : norm (meaning t x) ≡ meaning t x
 
 -- ---- numbers
-got-number : (t : List ℕ) (k : Kind) (v n : ℕ) → v < 65536 → n ≤ length t → n ≤ 260 → take n t ≡ logical (codeOf k) v → Got t (made k v) n
+got-number : (t : List ℕ) (k : Kind) (v n : ℕ) → v < 65536 → n ≤ length t → n ≤ mostBytes → take n t ≡ logical (codeOf k) v → Got t (made k v) n
 got-number t kClass v n h l s b = record { bytes = b; size = l; small = s; near = omega arith; held = omega arith; fine = h; normal = refl }
 got-number t kInstance v n h l s b = record { bytes = b; size = l; small = s; near = omega arith; held = omega arith; fine = h; normal = refl }
 got-number t kAttribute v n h l s b = record { bytes = b; size = l; small = s; near = omega arith; held = omega arith; fine = h; normal = refl }

@@ -18,7 +18,7 @@ use Rattle.wire.proofs.Rules.{rules, all-were, all-keep}
 use Rattle.wire.proofs.Answers.{Parts, plus-parts}
 use Rattle.wire.proofs.Stores.{part-length, lent-all}
 use Rattle.wire.proofs.Folds.{Adding, adding-first, adding-more, adding-stops, adding-ends, sizes-joined, Storing, storing-first, storing-fits, storing-more, storing-ends}
-use Rattle.epath.specs.Limits.{maxSegments, maxSymbol, maxLink, symbolCode, classCode, instanceCode, attributeCode, elementCode}
+use Rattle.epath.specs.Limits.{maxSegments, maxSymbol, maxLink, mostBytes, symbolCode, classCode, instanceCode, attributeCode, elementCode}
 use Rattle.epath.specs.Segments.{Seg, symbol, port, logical, pad, padOf, padded, portHead, encodeSeg, encode}
 use Rattle.epath.specs.Lists.{meaning, slotsOf, segs, segsOf}
 use Rattle.epath.specs.Writes.{segmentSize, pathSize, Good, AllGoodIn, AllGood}
@@ -36,7 +36,7 @@ none = record { segment = Symbol (record { start = 0; len = 0 }) }
 abbrev pub sizeIn : List ℕ → Slot → Answer ℕ
 sizeIn pool x = segmentSize pool (x .segment)
 
--- ---- no segment takes more than 260 bytes
+-- ---- no segment takes more than `mostBytes`
 
 pad-short : (r : ℕ) → length (padOf r) ≤ 1
 pad-short zero = omega arith
@@ -48,12 +48,12 @@ padded-short xs m h = rw (length-padded xs) (omega (arith, pad-short (length xs 
 logical-short : (code v : ℕ) → length (logical code v) ≤ 6
 logical-short code v = logical-each code v (λ l. length l ≤ 6) (omega arith) (omega arith) (omega arith)
 
-good-short : (pool : List ℕ) (s : Segment) → Good pool s → length (encodeSeg (meaning pool s)) ≤ 260
+good-short : (pool : List ℕ) (s : Segment) → Good pool s → length (encodeSeg (meaning pool s)) ≤ mostBytes
 good-short pool (Symbol y) g =
     let i = keeps-inside maxSymbol (length pool) (y .start) (y .len) g in
     let bs : List ℕ = take (y .len) (drop (y .start) pool) in
     let l : length bs ≡ y .len = part-length pool (y .start) (y .len) (i .ends) in
-    omega (arith, padded-short (symbolCode ∷ length bs ∷ bs) 257 (omega (arith, i .short)))
+    omega (arith, padded-short (symbolCode ∷ length bs ∷ bs) (2 + maxSymbol) (omega (arith, i .short)))
 good-short pool (Class v) g = omega (arith, logical-short classCode v)
 good-short pool (Instance v) g = omega (arith, logical-short instanceCode v)
 good-short pool (Attribute v) g = omega (arith, logical-short attributeCode v)
@@ -63,9 +63,9 @@ good-short pool (Port q) g =
     let bs : List ℕ = take (q .len) (drop (q .start) pool) in
     let l : length bs ≡ q .len = part-length pool (q .start) (q .len) (i .ends) in
     let h : List ℕ = portHead (q .port) (length bs) in
-    omega (arith, padded-short (h ++ bs) 258 (omega (arith, i .short, head-most (q .port) (length bs), length-append h bs)))
+    omega (arith, padded-short (h ++ bs) (4 + maxLink) (omega (arith, i .short, head-most (q .port) (length bs), length-append h bs)))
 
-pub size-short : (pool : List ℕ) (x : Slot) (n : ℕ) → sizeIn pool x ≡ done n → n ≤ 260
+pub size-short : (pool : List ℕ) (x : Slot) (n : ℕ) → sizeIn pool x ≡ done n → n ≤ mostBytes
 size-short pool x n h =
     let w : Sized pool (x .segment) n = sized pool (x .segment) n h in
     omega (arith, w .size, good-short pool (x .segment) (w .good))
@@ -86,7 +86,7 @@ module _ (p : Path) (full : length (p .slots) ≡ maxSegments) (few : p .count �
 
 -- ---- adding sizes
 abbrev pub Summing : List ℕ → Path → ℕ → ℕ → Type 0
-Summing pool p total i = Adding (sizeIn pool) 260 (size-short pool) (slotsOf p) total i
+Summing pool p total i = Adding (sizeIn pool) mostBytes (size-short pool) (slotsOf p) total i
 
 module _ (pool : List ℕ) (p : Path) where
   pub path-many : maxSegments < p .count → refused 3 ≡ pathSize pool p
@@ -98,19 +98,19 @@ module _ (pool : List ℕ) (p : Path) where
   counted h e = e ∙ sym (all-keep (over (p .count) maxSegments 3 ∷ []) (sizes (sizeIn pool) (slotsOf p)) (h, tt))
 
   pub summing-first : Summing pool p 0 0
-  summing-first = adding-first (sizeIn pool) 260 (size-short pool) (slotsOf p)
+  summing-first = adding-first (sizeIn pool) mostBytes (size-short pool) (slotsOf p)
 
   module _ (total i : ℕ) (m : Summing pool p total i) (full : length (p .slots) ≡ maxSegments) (few : p .count ≤ maxSegments) where
     pub summing-ends : p .count ≤ i → done total ≡ pathSize pool p
-    summing-ends h = counted few (adding-ends (sizeIn pool) 260 (size-short pool) (slotsOf p) m (past p full few i h))
+    summing-ends h = counted few (adding-ends (sizeIn pool) mostBytes (size-short pool) (slotsOf p) m (past p full few i h))
 
     module _ (h : i < p .count) (r : Wrote) (is : paperSize r ≡ segmentSize pool (getD (p .slots) i none .segment)) where
       pub summing-stops : (e : Refusal) → r ≡ Refused e → refused (number e) ≡ pathSize pool p
-      summing-stops e f = counted few (adding-stops (sizeIn pool) 260 (size-short pool) (slotsOf p) m (next p full few i h) (number e) (sym is ∙ ap paperSize f))
+      summing-stops e f = counted few (adding-stops (sizeIn pool) mostBytes (size-short pool) (slotsOf p) m (next p full few i h) (number e) (sym is ∙ ap paperSize f))
 
       module _ (n : ℕ) (f : r ≡ Size n) where
         pub summing-more : Summing pool p (total + n) (i + 1)
-        summing-more = adding-more (sizeIn pool) 260 (size-short pool) (slotsOf p) m (next p full few i h) n (sym is ∙ ap paperSize f)
+        summing-more = adding-more (sizeIn pool) mostBytes (size-short pool) (slotsOf p) m (next p full few i h) n (sym is ∙ ap paperSize f)
 
         pub summing-fits : Fits w64 (total + n)
         summing-fits = record { fits = omega (arith, summing-more .small) }

@@ -12,7 +12,7 @@ use borrow.Author.Tests.{lt-ltb, le-ltb}
 use Rattle.wire.specs.Refusals.{number}
 use Rattle.wire.specs.Answers.{Answer, done, refused}
 use Rattle.wire.specs.declared.Refusal.{Refusal}
-use Rattle.epath.specs.Limits.{maxSegments, maxPlace}
+use Rattle.epath.specs.Limits.{maxSegments, mostBytes, maxPlace}
 use Rattle.epath.specs.declared.Segment.{Segment}
 use Rattle.epath.specs.declared.SegmentRead.{SegmentRead}
 use Rattle.epath.specs.declared.SegmentRead.the-variants.{Found, Refused}
@@ -58,7 +58,7 @@ adds-one n x (refused k) = refl
 pub record Stands (s : List ℕ) (count at : ℕ) : Type 0 where
   pub few : count ≤ maxSegments
   pub there : at ≤ length s
-  pub near : at ≤ 260 * count
+  pub near : at ≤ mostBytes * count
 
 pub record Counting (s : List ℕ) (count at : ℕ) : Type 0 where
   pub stands : Stands s count at

@@ -14,6 +14,10 @@ maxSymbol = 255
 abbrev pub maxLink : ℕ
 maxLink = 254
 
+-- no segment takes more bytes: a head of 4, the longest symbol or link, a pad
+abbrev pub mostBytes : ℕ
+mostBytes = 260
+
 -- a place from which a segment's bytes start at most 4 later, in 32 bits
 abbrev pub maxPlace : ℕ
 maxPlace = 4294967291

@@ -6,7 +6,7 @@ use mathlib.Core.Bool.{Bool, true, false}
 use lib.ListN.{length, drop}
 use lib.Dec.{ltb}
 use Rattle.wire.specs.Answers.{Answer, done, refused, paperCount}
-use Rattle.epath.specs.Limits.{maxSegments}
+use Rattle.epath.specs.Limits.{maxSegments, mostBytes}
 use Rattle.epath.specs.Segments.{Seg}
 use Rattle.epath.specs.Lists.{segs, pathOf}
 use Rattle.epath.specs.Reads.{Front, front, readSeg, moved}
@@ -74,4 +74,4 @@ nextOf (refused k) = 0
 pub record Placed (s : List ℕ) (at : ℕ) (r : Answer Front) : Type 0 where
   pub is : r ≡ moved at (readSeg (drop at s))
   pub inside : nextOf r ≤ length s
-  pub close : nextOf r ≤ at + 260
+  pub close : nextOf r ≤ at + mostBytes
