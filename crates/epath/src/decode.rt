@@ -1,4 +1,4 @@
-// The strict reader: bytes into segments. It accepts exactly what the writer makes. The crate has none: it is added.
+// The strict reader: bytes into segments. It accepts exactly what the writer makes. rseip-cip has none: it is added.
 use crate::Path;
 use crate::PathRead;
 use crate::PortSegment;

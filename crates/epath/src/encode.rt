@@ -1,4 +1,4 @@
-// Sizes, and the writer: segments into bytes. Beside it in the crate: src/codec/encode/epath.rs.
+// Sizes, and the writer: segments into bytes. Beside it in rseip-cip: src/codec/encode/epath.rs.
 use crate::Path;
 use crate::PortSegment;
 use crate::Segment;

@@ -1,4 +1,4 @@
-// CIP paths: segments, their sizes, the writer and the strict reader. Beside it in the crate: src/epath.rs.
+// CIP paths: segments, their sizes, the writer and the strict reader. Beside it in rseip-cip: src/epath.rs.
 mod encode; // encode.rt: sizes and the writer
 mod decode; // decode.rt: the strict reader
 
