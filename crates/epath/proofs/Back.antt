@@ -1,25 +1,24 @@
 -- What is written is read back, with anything after it. Assumes nothing.
-use Prim.Native.Nat.{ℕ, zero, suc, _+_, _*_, _-_, _/_, _%_, _^_, _≤_, _<_}
-use mathlib.Core.Path.{_≡_, refl, sym, ap, _∙_, subst}
-use mathlib.Core.List.{List, [], _∷_, _++_, append-assoc, append-nil}
+use Prim.Native.Nat.{ℕ, zero, suc, _+_, _/_, _%_, _^_, _≤_, _<_}
+use mathlib.Core.Path.{_≡_, refl, sym, _∙_, subst}
+use mathlib.Core.List.{List, [], _∷_, _++_, append-assoc}
 use mathlib.Core.Logic.{_⊎_, inl, inr, ⊎-elim}
 use native.Mathlib.Omega.{arith}
-use lib.ListN.{length, getD, take, drop, length-append, length-drop}
+use lib.ListN.{length, getD, take, drop, length-append}
 use lib.Seq.{take-append-seam, drop-at, getD-append-seam}
-use Rattle.wire.specs.Numbers.{valueOf, lowFirst, Bytes}
-use Rattle.wire.specs.Answers.{Answer, done, refused, Rule, under, over, other, judged, KeepsAll}
+use Rattle.wire.specs.Numbers.{valueOf, lowFirst}
+use Rattle.wire.specs.Answers.{Answer, done, under, other}
 use Rattle.wire.proofs.Numbers.{value-low, low-length, below-or}
 use Rattle.wire.proofs.Rules.{all-keep}
-use Rattle.epath.specs.Limits.{maxSymbol, maxLink, nearPort, farPortCode, longLink, elementCode, symbolCode}
-use Rattle.epath.specs.Segments.{Seg, symbol, class, instance, attribute, element, port, logical, pad, padded, portHead, farPort, farValue, encodeSeg, Fine, linked, norm}
-use Rattle.epath.specs.Lists.{meaning}
+use Rattle.epath.specs.Limits.{maxLink, nearPort, farPortCode, longLink, elementCode, symbolCode}
+use Rattle.epath.specs.Segments.{Seg, symbol, class, instance, attribute, element, port, logical, pad, padded, farPort, farValue, encodeSeg, Fine, norm}
 use Rattle.epath.specs.declared.decode.Kind.{Kind}
 use Rattle.epath.specs.declared.decode.Kind.the-variants.{Class as kClass, Instance as kInstance, Attribute as kAttribute, Element as kElement}
 use Rattle.epath.specs.declared.decode.Form.{Form}
-use Rattle.epath.specs.declared.decode.Form.the-variants.{Port as fPort, Symbol as fSymbol, Narrow, Wide, Widest, Unknown}
+use Rattle.epath.specs.declared.decode.Form.the-variants.{Port as fPort, Symbol as fSymbol, Narrow, Wide, Widest}
 use Rattle.epath.specs.declared.Segment.{Segment}
-use Rattle.epath.specs.declared.Segment.the-variants.{Symbol, Class, Instance, Attribute, Element, Port}
-use Rattle.epath.specs.Reads.{Front, front, formOf, lookup, made, readNarrow, readWide, readPart, readSymbol, readLink, readPortNumber, readPort, readAs, readSeg, Parsed, parsed, seen, parse}
+use Rattle.epath.specs.declared.Segment.the-variants.{Symbol, Element, Port}
+use Rattle.epath.specs.Reads.{Front, front, formOf, lookup, made, readNarrow, readWide, readPart, readSymbol, readLink, readPortNumber, readAs, readSeg, parsed, parse}
 use Rattle.epath.proofs.ReadLaws.{form-port, part-even, part-odd, symbol-is, link-is, number-low, number-is, port-one, port-is, front-is}
 use Rattle.epath.proofs.Forms.{number-one, number-two, number-four, codeOf, head-short, head-long, head-escaped, head-both, padded-even, padded-odd}
 

@@ -1,16 +1,13 @@
 -- Each public function takes every argument, and its contract leaves one answer and one content of what is lent.
 -- Assumes nothing.
-use Prim.Native.Nat.{ℕ}
 use mathlib.Core.Path.{_≡_, refl, sym, ap, _∙_}
 use Rattle.exact.specs.Exact.{Exact, exact, says, same}
-use Rattle.wire.specs.Answers.{Answer, done, refused}
 use Rattle.wire.specs.Refusals.{number}
 use Rattle.wire.specs.declared.Counted.{Counted}
 use Rattle.wire.proofs.Rules.{never}
 use Rattle.wire.proofs.Answers.{number-one, size-one, count-one}
 use Rattle.epath.specs.Reads.{paperFront}
 use Rattle.epath.specs.Paths.{PathFound, paperPath}
-use Rattle.epath.specs.declared.Segment.{Segment}
 use Rattle.epath.specs.declared.SegmentRead.{SegmentRead}
 use Rattle.epath.specs.declared.SegmentRead.the-variants.{Found, Refused}
 use Rattle.epath.specs.declared.Path.{Path}

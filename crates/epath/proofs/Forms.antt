@@ -1,23 +1,20 @@
 -- Laws of the encoding's own pieces: numbers by width, port heads by case, pads, the table of first bytes. Assumes nothing.
-use Prim.Native.Nat.{ℕ, zero, suc, _+_, _*_, _-_, _/_, _%_, _^_, _≤_, _<_}
-use mathlib.Core.Path.{_≡_, refl, sym, ap, _∙_, subst}
-use mathlib.Core.List.{List, [], _∷_, _++_, append-assoc, append-nil}
+use Prim.Native.Nat.{ℕ, _+_, _%_, _≤_, _<_}
+use mathlib.Core.Path.{_≡_, refl}
+use mathlib.Core.List.{List, [], _∷_, _++_, append-nil}
 use mathlib.Core.Bool.{Bool, true, false}
 use native.Mathlib.Omega.{arith}
-use lib.ListN.{length, getD, take, drop, length-append}
-use lib.Seq.{length-take-le, take-suc}
+use lib.ListN.{length}
 use lib.Dec.{leb, eqb, ltb}
-use borrow.Author.Tests.{le-leb, lt-leb, ltb-true, ltb-false, eqb-true}
+use borrow.Author.Tests.{le-leb, lt-leb, ltb-true, eqb-true}
 use Rattle.wire.specs.Numbers.{lowFirst}
-use Rattle.epath.specs.Segments.{pick, logical, padOf, pad, padded, portHead, farPort, encodeSeg}
-use Rattle.epath.specs.Lists.{meaning}
-use Rattle.epath.specs.Limits.{maxSegments, maxSymbol, maxLink, maxPlace, portEnd, nearPort, farPortCode, longLink, classCode, instanceCode, elementCode, attributeCode, symbolCode}
-use Rattle.epath.specs.declared.Segment.{Segment}
+use Rattle.epath.specs.Segments.{pick, logical, padded, portHead, farPort}
+use Rattle.epath.specs.Limits.{portEnd, nearPort, farPortCode, longLink, classCode, instanceCode, elementCode, attributeCode, symbolCode}
 use Rattle.epath.specs.declared.decode.Kind.{Kind}
 use Rattle.epath.specs.declared.decode.Kind.the-variants.{Class as kClass, Instance as kInstance, Attribute as kAttribute, Element as kElement}
 use Rattle.epath.specs.declared.decode.Form.{Form}
 use Rattle.epath.specs.declared.decode.Form.the-variants.{Port as fPort, Symbol as fSymbol, Narrow, Wide, Widest, Unknown}
-use Rattle.epath.specs.Reads.{Row, row, table, lookup, formOf, made}
+use Rattle.epath.specs.Reads.{Row, row, table, lookup, formOf}
 
 -- what holds of both holds of the one that is picked
 pub pick-each : {A : Type 0} (P : A → Type 0) (b : Bool) (x y : A) → P x → P y → P (pick b x y)
@@ -44,12 +41,6 @@ codeOf kClass = classCode
 codeOf kInstance = instanceCode
 codeOf kAttribute = attributeCode
 codeOf kElement = elementCode
-
-pub made-bytes : (k : Kind) (v : ℕ) (t : List ℕ) → encodeSeg (meaning t (made k v)) ≡ logical (codeOf k) v
-made-bytes kClass v t = refl
-made-bytes kInstance v t = refl
-made-bytes kAttribute v t = refl
-made-bytes kElement v t = refl
 
 -- ---- port heads
 module _ (p n : ℕ) where

@@ -1,31 +1,27 @@
 -- What a segment that was read says of the bytes: they are its encoding. Assumes nothing.
-use Prim.Native.Nat.{ℕ, zero, suc, _+_, _*_, _-_, _/_, _%_, _^_, _≤_, _<_}
-use mathlib.Core.Path.{_≡_, refl, sym, ap, _∙_, subst}
-use mathlib.Core.List.{List, [], _∷_, _++_, append-assoc, append-nil}
-use mathlib.Core.Bool.{Bool, true, false}
-use mathlib.Core.Logic.{_⊎_, inl, inr, ⊎-elim}
+use Prim.Native.Nat.{ℕ, zero, suc, _+_, _/_, _%_, _^_, _≤_, _<_}
+use mathlib.Core.Path.{_≡_, refl, sym, ap, _∙_}
+use mathlib.Core.List.{List, [], _∷_, _++_}
+use mathlib.Core.Logic.{_⊎_, ⊎-elim}
 use native.Mathlib.Omega.{arith}
-use native.Mathlib.Nat.{add-zero, zero-add}
-use lib.ListN.{length, getD, take, drop, length-append, length-drop}
+use native.Mathlib.Nat.{add-zero}
+use lib.ListN.{length, getD, take, drop, length-drop}
 use lib.Seq.{length-take-le, take-suc, take-add, getD-drop}
-use lib.Dec.{ltb}
-use borrow.Author.Tests.{ltb-true, ltb-false, lt-ltb, le-ltb}
 use Rattle.wire.specs.Numbers.{valueOf, lowFirst, Bytes}
-use Rattle.wire.specs.Answers.{Answer, done, refused, Rule, under, over, other, judged, KeepsAll}
-use Rattle.wire.proofs.Numbers.{value-low, low-value, low-length, value-small, bytes-drop, below-or, first-one, first-two}
+use Rattle.wire.specs.Answers.{done, under, over, other, KeepsAll}
+use Rattle.wire.proofs.Numbers.{low-value, value-small, bytes-drop, below-or, first-one, first-two}
 use Rattle.wire.proofs.Rules.{all-were, never}
-use Rattle.epath.specs.Limits.{maxSegments, maxSymbol, maxLink, mostBytes, maxPlace, portEnd, nearPort, farPortCode, longLink, classCode, instanceCode, elementCode, attributeCode, symbolCode}
-use Rattle.epath.specs.Segments.{Seg, symbol, class, instance, attribute, element, port, logical, pad, padOf, padded, portHead, farPort, farValue, encodeSeg, Fine, linked, norm}
+use Rattle.epath.specs.Limits.{maxLink, mostBytes, portEnd, nearPort, farPortCode, longLink, elementCode, symbolCode}
+use Rattle.epath.specs.Segments.{port, logical, padded, portHead, farPort, farValue, encodeSeg, Fine, linked, norm}
 use Rattle.epath.specs.Lists.{meaning, startOf, lenOf}
 use Rattle.epath.specs.declared.decode.Kind.{Kind}
 use Rattle.epath.specs.declared.decode.Kind.the-variants.{Class as kClass, Instance as kInstance, Attribute as kAttribute, Element as kElement}
 use Rattle.epath.specs.declared.decode.Form.{Form}
-use Rattle.epath.specs.declared.decode.Form.the-variants.{Port as fPort, Symbol as fSymbol, Narrow, Wide, Widest, Unknown}
 use Rattle.epath.proofs.ReadLaws.{number-low, number-high, port-one, port-long}
 use Rattle.epath.specs.declared.Segment.{Segment}
-use Rattle.epath.specs.declared.Segment.the-variants.{Symbol, Class, Instance, Attribute, Element, Port}
-use Rattle.epath.specs.Reads.{Front, front, padRules, readPart, readWide, readNarrow, readSymbol, readLink, readPortNumber, readPort, readAs, readSeg, made, formOf}
-use Rattle.epath.proofs.Forms.{number-one, number-two, number-four, codeOf, made-bytes, head-short, head-long, head-escaped, head-both, padded-even, padded-odd, Begins, begins, symbol as bSymbol, port as bPort, narrow as bNarrow, wide as bWide, widest as bWidest, unknown as bUnknown}
+use Rattle.epath.specs.declared.Segment.the-variants.{Symbol, Element, Port}
+use Rattle.epath.specs.Reads.{front, padRules, readPart, readWide, readNarrow, readSymbol, readLink, readPortNumber, readPort, readAs, readSeg, made, formOf}
+use Rattle.epath.proofs.Forms.{number-one, number-two, number-four, codeOf, head-short, head-long, head-escaped, head-both, padded-even, padded-odd, Begins, begins, symbol as bSymbol, port as bPort, narrow as bNarrow, wide as bWide, widest as bWidest, unknown as bUnknown}
 
 -- ---- bytes with a pad
 pub record Ended (t : List ℕ) (x y : Segment) (end n : ℕ) : Type 0 where

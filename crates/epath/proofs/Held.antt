@@ -1,21 +1,20 @@
 -- The bytes of each segment that was read lie in the input: what the writer asks of a list (11). Assumes nothing.
 use Prim.Native.Nat.{ℕ, zero, suc, _+_, _-_, _≤_, _<_}
-use mathlib.Core.Path.{_≡_, refl, sym, ap, _∙_}
+use mathlib.Core.Path.{_≡_, refl}
 use mathlib.Core.List.{List, [], _∷_}
-use mathlib.Core.Logic.{_⊎_, inl, inr, ⊎-elim}
+use mathlib.Core.Logic.{_⊎_, ⊎-elim}
 use native.Mathlib.Omega.{arith}
-use lib.ListN.{length, getD, drop, length-drop}
+use lib.ListN.{length, drop, length-drop}
 use Rattle.wire.specs.Numbers.{Bytes}
 use Rattle.wire.specs.Answers.{Answer, done, refused}
 use Rattle.wire.proofs.Numbers.{below-or, bytes-drop}
-use Rattle.epath.specs.Limits.{maxSegments}
 use Rattle.epath.specs.Lists.{startOf, lenOf, shifted}
 use Rattle.epath.specs.declared.Segment.{Segment}
 use Rattle.epath.specs.declared.Segment.the-variants.{Symbol, Class, Instance, Attribute, Element, Port}
 use Rattle.epath.specs.declared.Slot.{Slot}
 use Rattle.epath.specs.Reads.{Front, front, readSeg, moved}
 use Rattle.epath.specs.Paths.{before, walk, listOf}
-use Rattle.epath.proofs.Got.{Got, got}
+use Rattle.epath.proofs.Got.{got}
 use Rattle.epath.proofs.Walks.{walk-ends, walk-full, walk-stops, walk-goes}
 
 -- each slot's bytes lie in a pool of n bytes

@@ -1,14 +1,14 @@
 -- The two loops over a list's slots: sizes added up, and segments stored. Assumes nothing.
-use Prim.Native.Nat.{ℕ, zero, suc, _+_, _*_, _-_, _%_, _^_, _≤_, _<_}
+use Prim.Native.Nat.{ℕ, zero, suc, _+_, _-_, _%_, _^_, _≤_, _<_}
 use mathlib.Core.Path.{_≡_, refl, sym, ap, _∙_, subst}
-use mathlib.Core.List.{List, [], _∷_, _++_, map}
+use mathlib.Core.List.{List, [], _∷_, _++_}
 use native.Mathlib.Numerals.{add-one}
 use native.Mathlib.Omega.{arith}
-use lib.ListN.{length, length-append, take, drop, getD, length-map, length-drop}
+use lib.ListN.{length, length-append, take, drop, getD, length-map}
 use lib.Seq.{sets, drop-cons, length-take-le, getD-take}
 use mir.Val.{Fits}
 use mir.Syntax.{w64}
-use Rattle.wire.specs.Answers.{Answer, done, refused, paperSize, Rule, over, judged, plus, Put}
+use Rattle.wire.specs.Answers.{Answer, done, refused, paperSize, over, Put}
 use Rattle.wire.specs.Refusals.{number}
 use Rattle.wire.specs.Folds.{sizes, joined}
 use Rattle.wire.specs.declared.Refusal.{Refusal}
@@ -16,10 +16,10 @@ use Rattle.wire.specs.declared.Wrote.{Wrote}
 use Rattle.wire.specs.declared.Wrote.the-variants.{Size, Refused}
 use Rattle.wire.proofs.Rules.{rules, all-were, all-keep}
 use Rattle.wire.proofs.Answers.{Parts, plus-parts}
-use Rattle.wire.proofs.Stores.{part-length, lent-all}
+use Rattle.wire.proofs.Stores.{part-length}
 use Rattle.wire.proofs.Folds.{Adding, adding-first, adding-more, adding-stops, adding-ends, sizes-joined, Storing, storing-first, storing-fits, storing-more, storing-ends}
 use Rattle.epath.specs.Limits.{maxSegments, maxSymbol, maxLink, mostBytes, symbolCode, classCode, instanceCode, attributeCode, elementCode}
-use Rattle.epath.specs.Segments.{Seg, symbol, port, logical, pad, padOf, padded, portHead, encodeSeg, encode}
+use Rattle.epath.specs.Segments.{Seg, port, logical, padOf, padded, portHead, encodeSeg, encode}
 use Rattle.epath.specs.Lists.{meaning, slotsOf, segs, segsOf}
 use Rattle.epath.specs.Writes.{segmentSize, pathSize, Good, AllGoodIn, AllGood}
 use Rattle.epath.specs.declared.Segment.{Segment}
@@ -27,7 +27,7 @@ use Rattle.epath.specs.declared.Segment.the-variants.{Symbol, Class, Ins
 use Rattle.epath.specs.declared.Slot.{Slot}
 use Rattle.epath.specs.declared.Path.{Path}
 use Rattle.epath.proofs.Forms.{logical-each}
-use Rattle.epath.proofs.SizeLaws.{Sized, sized, Inside, keeps-inside, head-most, length-padded}
+use Rattle.epath.proofs.SizeLaws.{Sized, sized, keeps-inside, head-most, length-padded}
 
 -- what the code's rules give past the end of an array of slots
 abbrev pub none : Slot

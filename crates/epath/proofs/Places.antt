@@ -1,24 +1,22 @@
 -- A segment at a place: what the reader of the part from there says of the whole. Assumes nothing.
-use Prim.Native.Nat.{ℕ, zero, suc, _+_, _-_, _≤_, _<_, _^_}
-use mathlib.Core.Path.{_≡_, refl, sym, ap, _∙_}
-use mathlib.Core.List.{List, [], _∷_, _++_}
+use Prim.Native.Nat.{ℕ, _+_, _-_, _≤_, _<_, _^_}
+use mathlib.Core.Path.{_≡_, sym, _∙_}
+use mathlib.Core.List.{List}
 use native.Mathlib.Omega.{arith}
 use lib.ListN.{length, getD, take, drop, length-drop}
 use mir.Val.{Fits}
 use mir.Syntax.{w8, w64}
-use Rattle.wire.specs.Numbers.{Bytes}
 use Rattle.wire.specs.Refusals.{number}
 use Rattle.wire.specs.declared.Refusal.{Refusal}
-use Rattle.wire.specs.Answers.{Answer, done, refused}
+use Rattle.wire.specs.Answers.{done, refused}
 use Rattle.wire.proofs.Numbers.{bytes-drop}
 use Rattle.wire.proofs.Stores.{lent-all}
-use Rattle.epath.specs.Limits.{maxPlace}
 use Rattle.epath.specs.Lists.{startOf, shifted}
 use Rattle.epath.specs.declared.Segment.{Segment}
 use Rattle.epath.specs.declared.SegmentRead.{SegmentRead}
 use Rattle.epath.specs.declared.SegmentRead.the-variants.{Found, Refused}
-use Rattle.epath.specs.Reads.{front, paperFront, readSeg, moved}
-use Rattle.epath.specs.Paths.{Placed, nextOf}
+use Rattle.epath.specs.Reads.{front, paperFront, readSeg}
+use Rattle.epath.specs.Paths.{Placed}
 use Rattle.epath.proofs.Got.{Got, got}
 
 module _ (s : List ℕ) (at : ℕ) (r : SegmentRead) (e : paperFront r ≡ readSeg (take (length s - at) (drop at s))) where

@@ -1,16 +1,14 @@
 -- Each end of each reader of a segment, as a law with plain conditions. Assumes nothing.
-use Prim.Native.Nat.{ℕ, zero, suc, _+_, _*_, _-_, _%_, _≤_, _<_}
-use mathlib.Core.Path.{_≡_, refl, sym, ap, _∙_}
-use mathlib.Core.List.{List, [], _∷_, _++_}
-use mathlib.Core.Bool.{Bool, true, false}
+use Prim.Native.Nat.{ℕ, _+_, _%_, _≤_, _<_}
+use mathlib.Core.Path.{_≡_, refl, sym, _∙_}
+use mathlib.Core.List.{List, [], _∷_}
 use native.Mathlib.Omega.{arith}
-use lib.ListN.{length, getD, take, drop}
+use lib.ListN.{length, getD, drop}
 use mir.Val.{Fits}
-use mir.Syntax.{w32, w64}
-use lib.Dec.{ltb, eqb}
-use borrow.Author.Tests.{lt-ltb, le-ltb, eq-eqb, ne-eqb}
+use mir.Syntax.{w32}
+use borrow.Author.Tests.{lt-ltb, le-ltb, ne-eqb}
 use Rattle.wire.specs.Numbers.{valueOf}
-use Rattle.wire.specs.Answers.{Answer, done, refused, Rule, under, over, other, judged}
+use Rattle.wire.specs.Answers.{Answer, done, refused, under, over, judged}
 use Rattle.wire.proofs.Rules.{rules}
 use Rattle.epath.specs.Limits.{maxLink, maxPlace, portEnd, nearPort, farPortCode, longLink, classCode, instanceCode, elementCode, attributeCode, symbolCode}
 use Rattle.epath.specs.declared.Segment.{Segment}
@@ -23,7 +21,7 @@ use Rattle.epath.specs.declared.decode.Kind.{Kind}
 use Rattle.epath.specs.declared.decode.Kind.the-variants.{Class as kClass, Instance as kInstance, Attribute as kAttribute, Element as kElement}
 use Rattle.epath.specs.declared.decode.Form.{Form}
 use Rattle.epath.specs.declared.decode.Form.the-variants.{Port as fPort, Symbol as fSymbol, Narrow, Wide, Widest, Unknown}
-use Rattle.epath.specs.Reads.{Front, front, Row, row, table, formOf, lookup, made, readNarrow, readWide, padRules, readPart, readSymbol, readLink, readPortNumber, readPort, readAs, readSeg}
+use Rattle.epath.specs.Reads.{Front, front, Row, row, table, formOf, lookup, made, readNarrow, readWide, readPart, readSymbol, readLink, readPortNumber, readPort, readAs, readSeg}
 
 -- ---- the first byte: each row of the table, and none
 module _ (b : ℕ) where

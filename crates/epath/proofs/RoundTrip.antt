@@ -1,10 +1,10 @@
 -- The reader and the writer are each other's, for one segment and for lists. Assumes nothing.
-use Prim.Native.Nat.{ℕ, zero, suc, _+_, _*_, _-_, _%_, _≤_, _<_}
+use Prim.Native.Nat.{ℕ, zero, suc, _+_, _-_, _≤_, _<_}
 use mathlib.Core.Path.{_≡_, refl, sym, ap, _∙_, subst}
 use mathlib.Core.List.{List, [], _∷_, _++_, map}
-use mathlib.Core.Logic.{_⊎_, inl, inr, ⊎-elim}
+use mathlib.Core.Logic.{_⊎_, ⊎-elim}
 use native.Mathlib.Omega.{arith}
-use lib.ListN.{length, getD, take, drop, length-append, length-drop, take-append-drop, drop-of-length-le}
+use lib.ListN.{length, drop, length-drop, take-append-drop, drop-of-length-le}
 use lib.Seq.{drop-drop, drop-append-seam}
 use Rattle.wire.specs.Numbers.{Bytes}
 use Rattle.wire.specs.Answers.{Answer, done, refused}
@@ -16,7 +16,7 @@ use Rattle.epath.specs.Lists.{meaning, shifted}
 use Rattle.epath.specs.declared.Segment.{Segment}
 use Rattle.epath.specs.declared.Segment.the-variants.{Symbol, Class, Instance, Attribute, Element, Port}
 use Rattle.epath.specs.declared.Slot.{Slot}
-use Rattle.epath.specs.Reads.{Front, front, readSeg, Parsed, parsed, seen, parse, moved}
+use Rattle.epath.specs.Reads.{Front, front, readSeg, parsed, seen, parse, moved}
 use Rattle.epath.specs.Paths.{before, walk, sees, parsePath}
 use Rattle.epath.proofs.ReadLaws.{front-short}
 use Rattle.epath.proofs.Got.{Got, got}

@@ -1,5 +1,5 @@
 -- Each end of the sizes, as a law with plain conditions. Assumes nothing.
-use Prim.Native.Nat.{ℕ, zero, suc, _+_, _*_, _-_, _%_, _^_, _≤_, _<_}
+use Prim.Native.Nat.{ℕ, suc, _+_, _-_, _%_, _≤_, _<_}
 use mathlib.Core.Path.{_≡_, refl, sym, ap, _∙_}
 use mathlib.Core.List.{List, [], _∷_, _++_}
 use mathlib.Core.Logic.{_⊎_, ⊎-elim}
@@ -12,15 +12,15 @@ use mir.Syntax.{w64}
 use borrow.Author.Tests.{le-leb, lt-leb}
 use Rattle.wire.specs.Parts.{part}
 use Rattle.wire.specs.Refusals.{number}
-use Rattle.wire.specs.Answers.{Answer, done, refused, paperSize, Rule, over, judged, KeepsAll}
+use Rattle.wire.specs.Answers.{Answer, done, refused, paperSize, Rule, judged, KeepsAll}
 use Rattle.wire.specs.declared.Refusal.{Refusal}
 use Rattle.wire.specs.declared.Wrote.{Wrote}
 use Rattle.wire.specs.declared.Wrote.the-variants.{Size, Refused}
-use Rattle.wire.proofs.Rules.{rules, all-were, all-keep, same-refusal, never}
+use Rattle.wire.proofs.Rules.{all-were, all-keep, same-refusal}
 use Rattle.wire.proofs.Numbers.{below-or}
 use Rattle.wire.proofs.Stores.{part-length}
 use Rattle.epath.specs.Limits.{maxSymbol, maxLink, nearPort, classCode, instanceCode, attributeCode, elementCode, symbolCode}
-use Rattle.epath.specs.Segments.{Seg, symbol, port, logical, pad, padOf, padded, portHead, encodeSeg}
+use Rattle.epath.specs.Segments.{symbol, port, logical, pad, padded, portHead, encodeSeg}
 use Rattle.epath.specs.Lists.{meaning}
 use Rattle.epath.specs.Writes.{partRules, segmentRules, segmentSize, Good}
 use Rattle.epath.specs.declared.Segment.{Segment}

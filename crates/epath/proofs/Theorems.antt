@@ -1,21 +1,20 @@
 -- What a user may rely on of paths, said of what the functions answer and leave: even length, joining, read back, written back. Assumes nothing.
-use Prim.Native.Nat.{ℕ, zero, suc, _+_, _*_, _-_, _%_, _≤_, _<_}
+use Prim.Native.Nat.{ℕ, zero, suc, _+_, _-_, _%_, _≤_, _<_}
 use mathlib.Core.Path.{_≡_, refl, sym, ap, _∙_, subst}
 use mathlib.Core.List.{List, [], _∷_, _++_, map}
-use native.Mathlib.Nat.{zero-add}
 use native.Mathlib.Omega.{arith}
 use lib.ListN.{length, take, drop, length-append, length-replicate, length-map}
-use lib.Seq.{sets, sets-eq, take-append-seam, length-take-le}
+use lib.Seq.{sets-eq, take-append-seam}
 use Rattle.wire.specs.Numbers.{Bytes}
 use Rattle.wire.specs.Parts.{overlay}
-use Rattle.wire.specs.Answers.{Answer, done, refused, paperCount, Rule, over, judged, plus, withRoom, written}
+use Rattle.wire.specs.Answers.{Answer, done, refused, over, plus, withRoom, written}
 use Rattle.wire.specs.Folds.{sizes}
 use Rattle.wire.proofs.Rules.{never, all-keep}
 use Rattle.wire.proofs.Answers.{room-kept, room-was}
 use Rattle.wire.proofs.Stores.{part-length}
 use Rattle.wire.proofs.Folds.{sizes-append, joined-append}
 use Rattle.epath.specs.Limits.{maxSegments, maxSymbol, maxLink, symbolCode, classCode, instanceCode, attributeCode, elementCode}
-use Rattle.epath.specs.Segments.{Seg, symbol, class, instance, attribute, element, port, logical, pad, padOf, padded, portHead, encodeSeg, encode, Fine, AllFine, norm}
+use Rattle.epath.specs.Segments.{Seg, symbol, class, instance, attribute, element, port, logical, padOf, padded, portHead, encodeSeg, encode, Fine, AllFine, norm}
 use Rattle.epath.specs.Lists.{meaning, slotsOf, segs, segsOf, blank, blanks, pathOf, startOf, lenOf}
 use Rattle.epath.specs.Writes.{segmentRules, segmentSize, pathSize, Good, AllGoodIn}
 use Rattle.epath.specs.Paths.{walk, countOf, listOf, PathFound, readPath, checkPath, sees, parsePath}

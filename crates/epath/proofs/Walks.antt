@@ -1,12 +1,11 @@
 -- The walk over a path's segments, a turn at a time: what is left gives what the whole gives. Assumes nothing.
 use Prim.Native.Nat.{ℕ, zero, suc, _+_, _*_, _-_, _≤_, _<_}
 use mathlib.Core.Path.{_≡_, refl, sym, ap, _∙_}
-use mathlib.Core.List.{List, [], _∷_, _++_}
-use mathlib.Core.Bool.{Bool, true, false}
+use mathlib.Core.List.{List, []}
 use native.Mathlib.Omega.{arith}
 use native.Mathlib.Nat.{add-zero, zero-add}
 use native.Mathlib.Numerals.{add-one}
-use lib.ListN.{length, getD, take, drop, set, length-set, length-replicate}
+use lib.ListN.{length, drop, set, length-set, length-replicate}
 use lib.Seq.{sets}
 use borrow.Author.Tests.{lt-ltb, le-ltb}
 use Rattle.wire.specs.Refusals.{number}
@@ -19,8 +18,8 @@ use Rattle.epath.specs.declared.SegmentRead.the-variants.{Found, Refused
 use Rattle.epath.specs.declared.Slot.{Slot}
 use Rattle.epath.specs.declared.Path.{Path}
 use Rattle.epath.specs.Lists.{blank, blanks, pathOf}
-use Rattle.epath.specs.Reads.{Front, front, paperFront, readSeg, moved}
-use Rattle.epath.specs.Paths.{before, walk, PathFound, countOf, listOf, readPath, checkPath, nextOf, Placed}
+use Rattle.epath.specs.Reads.{front, paperFront, readSeg, moved}
+use Rattle.epath.specs.Paths.{before, walk, PathFound, countOf, listOf, readPath, checkPath, Placed}
 
 -- ---- each end of the walk
 module _ (s : List ℕ) (at : ℕ) where

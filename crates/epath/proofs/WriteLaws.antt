@@ -1,8 +1,7 @@
 -- Each end of the writer's parts, as a law with plain conditions. Assumes nothing.
-use Prim.Native.Nat.{ℕ, zero, suc, _+_, _*_, _-_, _/_, _%_, _≤_, _<_}
+use Prim.Native.Nat.{ℕ, _+_, _/_, _%_, _≤_, _<_}
 use mathlib.Core.Path.{_≡_, refl, sym, ap, _∙_, subst}
 use mathlib.Core.List.{List, [], _∷_, _++_, append-nil, append-assoc}
-use native.Mathlib.Nat.{add-zero, zero-add}
 use native.Mathlib.Numerals.{add-one}
 use native.Mathlib.Omega.{arith}
 use lib.ListN.{length, set, length-append}
@@ -12,12 +11,12 @@ use mir.Syntax.{w16}
 use borrow.Author.Tests.{le-leb, lt-leb}
 use Rattle.wire.specs.Numbers.{lowFirst}
 use Rattle.wire.specs.Parts.{part}
-use Rattle.wire.specs.Answers.{Answer, done, paperSize, Put}
+use Rattle.wire.specs.Answers.{paperSize, Put}
 use Rattle.wire.specs.declared.Wrote.{Wrote}
 use Rattle.wire.specs.declared.Wrote.the-variants.{Size}
 use Rattle.wire.proofs.Stores.{sets-append, part-length}
 use Rattle.epath.specs.Limits.{maxSymbol, maxLink, nearPort, farPortCode, longLink, classCode, instanceCode, attributeCode, elementCode, symbolCode}
-use Rattle.epath.specs.Segments.{Seg, symbol, port, logical, pad, padded, farPort, portHead, encodeSeg}
+use Rattle.epath.specs.Segments.{symbol, port, logical, pad, padded, farPort, portHead, encodeSeg}
 use Rattle.epath.specs.Lists.{meaning}
 use Rattle.epath.specs.Writes.{segmentSize, Good, PutAt}
 use Rattle.epath.specs.declared.Segment.{Segment}

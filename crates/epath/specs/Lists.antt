@@ -1,6 +1,6 @@
 -- What the code's segments and lists mean over a pool. Document 01, "What must change shape". Assumes nothing: these are definitions.
 use Prim.Native.Nat.{ℕ, _+_}
-use mathlib.Core.List.{List, [], _∷_, map}
+use mathlib.Core.List.{List, map}
 use mathlib.Core.Bool.{Bool, true, false}
 use lib.ListN.{length, take, replicate}
 use lib.Seq.{sets}

@@ -2,12 +2,12 @@
 use Prim.Native.Nat.{ℕ, _+_, _-_, _≤_, _<_}
 use mathlib.Core.Path.{_≡_, refl, sym, ap, _∙_}
 use mathlib.Core.List.{List, [], _∷_}
-use native.Mathlib.Nat.{add-zero, zero-add, add-assoc}
+use native.Mathlib.Nat.{zero-add, add-assoc}
 use native.Mathlib.Omega.{arith}
 use lib.ListN.{length, getD}
 use lib.Seq.{sets}
 use Rattle.wire.specs.Refusals.{number}
-use Rattle.wire.specs.Answers.{Answer, done, refused, paperSize, paperCount, Rule, under, judged, plus, withRoom, written}
+use Rattle.wire.specs.Answers.{Answer, done, refused, paperSize, paperCount, under, plus, withRoom, written}
 use Rattle.wire.specs.declared.Refusal.{Refusal}
 use Rattle.wire.specs.declared.Refusal.the-variants.{Short, Room, Limit, Code, Form, Words, Offset, Leftover, Depth, Envelope, Outside}
 use Rattle.wire.specs.declared.Wrote.{Wrote}

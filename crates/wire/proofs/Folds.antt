@@ -2,15 +2,15 @@
 -- As a turn begins, what is left of the list gives what the whole list gives. Assumes nothing.
 use mathlib.Core.Path.{_≡_, refl, sym, ap, _∙_}
 use mathlib.Core.List.{List, [], _∷_, _++_, append-assoc}
-use Prim.Native.Nat.{ℕ, zero, suc, _+_, _*_, _-_, _≤_, _<_}
-use native.Mathlib.Nat.{add-zero, zero-add}
+use Prim.Native.Nat.{ℕ, _+_, _*_, _-_, _≤_}
+use native.Mathlib.Nat.{add-zero}
 use native.Mathlib.Omega.{arith}
-use lib.ListN.{length, length-append, length-drop, take, drop, drop-of-length-le}
+use lib.ListN.{length, length-append, take, drop, drop-of-length-le}
 use lib.Seq.{sets, length-sets}
 use Rattle.wire.specs.Answers.{Answer, done, refused, plus, Put}
 use Rattle.wire.specs.Folds.{sizes, joined}
 use Rattle.wire.proofs.Answers.{plus-none, plus-assoc, Parts, plus-parts}
-use Rattle.wire.proofs.Stores.{sets-append, sets-lent, lent-all}
+use Rattle.wire.proofs.Stores.{sets-append, sets-lent}
 
 -- ---- adding sizes, each at most `most`
 module _ {A : Type 0} (size : A → Answer ℕ) where

@@ -8,7 +8,7 @@ use lib.Dec.{ltb}
 use borrow.Author.Tests.{ltb-true, ltb-false}
 use native.Mathlib.Nat.{add-zero, pow-suc}
 use native.Mathlib.Omega.{arith}
-use lib.ListN.{length, getD, take, drop, List·getD-eq-default, length-drop, drop-of-length-le}
+use lib.ListN.{length, getD, take, drop, List·getD-eq-default, drop-of-length-le}
 use lib.Seq.{getD-drop, drop-drop}
 use Rattle.wire.specs.Numbers.{valueOf, lowFirst, Bytes}
 

@@ -1,11 +1,11 @@
 -- Rules in order: a law for a rule that is kept and one for a rule that is broken, over any answer. Assumes nothing.
 use Prim.Native.Nat.{ℕ, _≤_, _<_}
 use mathlib.Core.Path.{_≡_, refl, sym, ap, _∙_}
-use mathlib.Core.List.{List, [], _∷_, _++_}
+use mathlib.Core.List.{List, [], _∷_}
 use mathlib.Core.Bool.{Bool, true, false, not}
 use native.Mathlib.Omega.{arith}
-use lib.Dec.{ltb, eqb}
-use borrow.Author.Tests.{ltb-true, ltb-false, lt-ltb, le-ltb, eq-eqb, ne-eqb, eqb-true, not-false}
+use lib.Dec.{eqb}
+use borrow.Author.Tests.{ltb-false, lt-ltb, le-ltb, eq-eqb, ne-eqb, eqb-true, not-false}
 use Rattle.wire.specs.Answers.{Answer, done, refused, Rule, under, over, other, breaks, numberOf, judged, Keeps, KeepsAll}
 
 pub never : {A B : Type 0} {x : A} {k : ℕ} → refused k ≡ done x → B
