@@ -1,0 +1,107 @@
+// Answers each case on standard input with one line of hex: README.md has the form of a case. A line that is no case is answered `bad`.
+mod fields; // fields.rt: the fields of a case
+mod reply; // reply.rt: the bytes of an answer
+mod paths; // paths.rt: operations 01 to 07
+
+use fields::MAX_ROOM;
+use lines::Case;
+use lines::Line;
+
+// Bytes of the longest case.
+const MAX_CASE: usize = lines::MAX_DIGITS / 2;
+
+// No answer is longer: the largest output, and what stands before it.
+const MAX_REPLY: usize = 131072;
+
+const NEWLINE: u8 = 10;
+
+// Writes an answer as one line, by way of text.
+fn print(answer: &[u8], text: &mut [u8]) {
+    for i in 0..answer.len() {
+        let b = wire::byte_at(answer, i);
+        wire::put_byte(text, 2 * i, lines::hex_digit(b / 16));
+        wire::put_byte(text, 2 * i + 1, lines::hex_digit(b));
+    }
+    let n = 2 * answer.len();
+    wire::put_byte(text, n, NEWLINE);
+    io::write_all(1, wire::part_of(text, 0, n + 1));
+}
+
+// Puts the answer of a case at the front of reply, and answers how many bytes it has; 0 for what is no case.
+fn ask(case: &[u8], lent: &mut [u8], reply: &mut [u8]) -> usize {
+    let op = wire::byte_at(case, 0);
+    if op < 0x10 {
+        return paths::ask(op, case, lent, reply);
+    }
+    0
+}
+
+fn answer(case: &[u8], lent: &mut [u8], reply: &mut [u8], text: &mut [u8]) {
+    let n = ask(case, lent, reply);
+    if n == 0 {
+        io::write_all(1, b"bad\n");
+        return;
+    }
+    print(wire::part_of(reply, 0, n), text);
+}
+
+// A line that has ended.
+fn finish(line: Line, case: &[u8], lent: &mut [u8], reply: &mut [u8], text: &mut [u8]) {
+    match lines::line_case(line) {
+        Case::Nothing => {}
+        Case::Bytes(n) => answer(wire::part_of(case, 0, n), lent, reply, text),
+        Case::Bad => {
+            io::write_all(1, b"bad\n");
+        }
+    }
+}
+
+// What came of the input goes to the line that it belongs to.
+fn feed(
+    chunk: &[u8],
+    line: Line,
+    case: &mut [u8],
+    lent: &mut [u8],
+    reply: &mut [u8],
+    text: &mut [u8],
+) -> Line {
+    let mut l = line;
+    for i in 0..chunk.len() {
+        let b = wire::byte_at(chunk, i);
+        if b == NEWLINE {
+            finish(l, case, lent, reply, text);
+            l = lines::blank_line();
+        } else {
+            l = lines::take_char(l, b, case);
+        }
+    }
+    l
+}
+
+// A proved loop has to end, and nothing says that the input does. So the turns are counted down from a number that no run uses up.
+fn main() {
+    let mut chunk = io::large_buffer();
+    let mut case = [0u8; MAX_CASE];
+    let mut lent = [0u8; MAX_ROOM];
+    let mut reply = [0u8; MAX_REPLY];
+    let mut text = [0u8; 2 * MAX_REPLY + 1];
+    let mut line = lines::blank_line();
+    let mut turns = u64::MAX;
+    while turns > 0 {
+        let got = libc::read(0, &mut chunk);
+        let n = io::count(got, &chunk);
+        if n == 0 {
+            break;
+        }
+        line = feed(
+            &chunk[..n],
+            line,
+            &mut case,
+            &mut lent,
+            &mut reply,
+            &mut text,
+        );
+        turns -= 1;
+    }
+    finish(line, &case, &mut lent, &mut reply, &mut text);
+}

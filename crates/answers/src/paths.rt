@@ -1,0 +1,142 @@
+// Operations 01 to 07: segments and paths.
+use crate::fields;
+use crate::fields::OUT;
+use crate::fields::Taken;
+use crate::reply;
+use epath::Path;
+use epath::Segment;
+use epath::SegmentRead;
+use wire::Counted;
+
+fn size_segment(case: &[u8], answer: &mut [u8]) -> usize {
+    let pool = fields::string(case, 1);
+    let at = pool.next;
+    if fields::after_segment(case, at) != case.len() {
+        return 0;
+    }
+    match fields::segment_at(case, at) {
+        Taken::Good(x) => reply::sized(epath::segment_size(x, fields::bytes(case, pool)), answer),
+        Taken::Bad => 0,
+    }
+}
+
+fn size_path(case: &[u8], answer: &mut [u8]) -> usize {
+    let pool = fields::string(case, 1);
+    let list = fields::list(case, pool.next);
+    if list.next != case.len() {
+        return 0;
+    }
+    let path = fields::path(case, list);
+    reply::sized(epath::path_size(path, fields::bytes(case, pool)), answer)
+}
+
+fn write_one(x: Segment, pool: &[u8], out: &mut [u8], answer: &mut [u8]) -> usize {
+    let w = epath::write_segment(x, pool, out);
+    reply::wrote(w, out, answer)
+}
+
+// A room past the longest that can be asked for is more than lent has.
+fn write_segment(case: &[u8], lent: &mut [u8], answer: &mut [u8]) -> usize {
+    let pool = fields::string(case, 1);
+    let at = pool.next;
+    let room = fields::room(case, fields::after_segment(case, at));
+    if lent.len() < room {
+        return 0;
+    }
+    reply::fill(lent, room);
+    match fields::segment_at(case, at) {
+        Taken::Good(x) => write_one(x, fields::bytes(case, pool), &mut lent[0..room], answer),
+        Taken::Bad => 0,
+    }
+}
+
+fn write_all(p: Path, pool: &[u8], out: &mut [u8], answer: &mut [u8]) -> usize {
+    let w = epath::write_path(p, pool, out);
+    reply::wrote(w, out, answer)
+}
+
+fn write_path(case: &[u8], lent: &mut [u8], answer: &mut [u8]) -> usize {
+    let pool = fields::string(case, 1);
+    let list = fields::list(case, pool.next);
+    let room = fields::room(case, list.next);
+    if lent.len() < room {
+        return 0;
+    }
+    reply::fill(lent, room);
+    let path = fields::path(case, list);
+    write_all(path, fields::bytes(case, pool), &mut lent[0..room], answer)
+}
+
+// A list as a case has it, behind the byte that accepts.
+fn list(p: Path, answer: &mut [u8]) -> usize {
+    let count = p.count;
+    wire::put_byte(answer, 0, 0);
+    wire::put_u16(answer, 1, (count % 65536) as u16);
+    for i in 0..epath::MAX_SEGMENTS {
+        if i < count {
+            let slot = p.slots[i];
+            let x = slot.segment;
+            reply::segment(x, answer, 3 + fields::SEG * i);
+        }
+    }
+    3 + fields::SEG * (count % 65536)
+}
+
+fn read_path(s: &[u8], answer: &mut [u8]) -> usize {
+    let read = epath::read_path(s);
+    let found = read.answer;
+    match found {
+        Counted::Count(_) => list(read.path, answer),
+        Counted::Refused(e) => reply::refused(e, answer),
+    }
+}
+
+fn found(x: Segment, n: usize, answer: &mut [u8]) -> usize {
+    wire::put_byte(answer, 0, 0);
+    reply::segment(x, answer, 1);
+    reply::put_number(answer, 1 + fields::SEG, n);
+    5 + fields::SEG
+}
+
+fn read_segment(s: &[u8], answer: &mut [u8]) -> usize {
+    match epath::read_segment(s) {
+        SegmentRead::Found(x, n) => found(x, n, answer),
+        SegmentRead::Refused(e) => reply::refused(e, answer),
+    }
+}
+
+// The readers: their case is a byte string alone.
+fn read(op: u8, case: &[u8], answer: &mut [u8]) -> usize {
+    let input = fields::string(case, 1);
+    if input.next != case.len() {
+        return 0;
+    }
+    let s = fields::bytes(case, input);
+    if op == 5 {
+        return read_path(s, answer);
+    }
+    if op == 6 {
+        return read_segment(s, answer);
+    }
+    if op == 7 {
+        return reply::counted(epath::check_path(s), answer);
+    }
+    0
+}
+
+// Puts the answer of a case at the front of answer, and answers how many bytes it has; 0 for what is no case.
+pub(crate) fn ask(op: u8, case: &[u8], lent: &mut [u8], answer: &mut [u8]) -> usize {
+    if op == 1 {
+        return size_segment(case, answer);
+    }
+    if op == 2 {
+        return size_path(case, answer);
+    }
+    if op == 3 {
+        return write_segment(case, lent, answer);
+    }
+    if op == 4 {
+        return write_path(case, lent, answer);
+    }
+    read(op, case, answer)
+}

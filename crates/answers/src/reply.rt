@@ -1,0 +1,82 @@
+// The bytes of an answer, put at the front of reply; each function answers how many they are.
+use epath::PortSegment;
+use epath::Segment;
+use epath::SymbolSegment;
+use wire::Counted;
+use wire::Refusal;
+use wire::Wrote;
+
+// What an output holds before it is lent, so that what is not written shows.
+const BLANK: u8 = 0xA5;
+
+// Makes the first room bytes of lent ready.
+pub(crate) fn fill(lent: &mut [u8], room: usize) {
+    for i in 0..room {
+        wire::put_byte(lent, i, BLANK);
+    }
+}
+
+// No number of an answer is larger.
+pub(crate) fn put_number(reply: &mut [u8], at: usize, n: usize) {
+    wire::put_u32(reply, at, (n % 4294967296) as u32);
+}
+
+pub(crate) fn refused(e: Refusal, reply: &mut [u8]) -> usize {
+    wire::put_byte(reply, 0, wire::refusal_number(e));
+    1
+}
+
+// A number.
+fn number(n: usize, reply: &mut [u8]) -> usize {
+    wire::put_byte(reply, 0, 0);
+    put_number(reply, 1, n);
+    5
+}
+
+pub(crate) fn sized(w: Wrote, reply: &mut [u8]) -> usize {
+    match w {
+        Wrote::Size(n) => number(n, reply),
+        Wrote::Refused(e) => refused(e, reply),
+    }
+}
+
+pub(crate) fn counted(c: Counted, reply: &mut [u8]) -> usize {
+    match c {
+        Counted::Count(n) => number(n, reply),
+        Counted::Refused(e) => refused(e, reply),
+    }
+}
+
+// A writer's answer, with the whole output behind it.
+pub(crate) fn wrote(w: Wrote, out: &[u8], reply: &mut [u8]) -> usize {
+    let n = sized(w, reply);
+    wire::put_bytes(reply, n, out);
+    n + out.len()
+}
+
+fn put_segment(kind: u8, number: u32, start: u32, len: u32, reply: &mut [u8], at: usize) {
+    wire::put_byte(reply, at, kind);
+    wire::put_u32(reply, at + 1, number);
+    wire::put_u32(reply, at + 5, start);
+    wire::put_u32(reply, at + 9, len);
+}
+
+fn put_symbol(y: SymbolSegment, reply: &mut [u8], at: usize) {
+    put_segment(0, 0, y.start, y.len, reply, at);
+}
+
+fn put_port(q: PortSegment, reply: &mut [u8], at: usize) {
+    put_segment(5, q.port as u32, q.start, q.len, reply, at);
+}
+
+// The segment as a case has it: kind, number, start, length.
+pub(crate) fn segment(x: Segment, reply: &mut [u8], at: usize) {
+    match x {
+        Segment::Symbol(y) => put_symbol(y, reply, at),
+        Segment::Class(v) => put_segment(1, v as u32, 0, 0, reply, at),
+        Segment::Instance(v) => put_segment(2, v as u32, 0, 0, reply, at),
+        Segment::Attribute(v) => put_segment(3, v as u32, 0, 0, reply, at),
+        Segment::Element(v) => put_segment(4, v, 0, 0, reply, at),
+        Segment::Port(q) => put_port(q, reply, at),
+    }
+}
