@@ -18,7 +18,7 @@ pub const SEG: usize = 13;
 pub const OUT: usize = usize::MAX;
 
 // A byte string: where its bytes are, and where the next field begins.
-pub struct Field {
+pub struct StringField {
     pub start: usize,
     pub len: usize,
     pub next: usize,
@@ -31,7 +31,7 @@ pub enum Taken {
 }
 
 // A list: where its segments are, how many, and where the next field begins.
-pub struct List {
+pub struct ListField {
     pub start: usize,
     pub count: usize,
     pub next: usize,
@@ -49,11 +49,11 @@ pub(crate) fn skip(case: &[u8], at: usize, n: usize) -> usize {
     at + n
 }
 
-pub(crate) fn string(case: &[u8], at: usize) -> Field {
+pub(crate) fn string(case: &[u8], at: usize) -> StringField {
     let start = skip(case, at, 4);
     let len = wire::u32_at(case, at) as usize;
     let next = skip(case, start, len);
-    Field { start, len, next }
+    StringField { start, len, next }
 }
 
 // Whether what a kind does not have is 0.
@@ -92,7 +92,7 @@ fn symbol(number: u32, start: u32, len: u32) -> Taken {
 }
 
 // The bytes of a byte string.
-pub(crate) fn bytes<'a>(case: &'a [u8], f: Field) -> &'a [u8] {
+pub(crate) fn bytes<'a>(case: &'a [u8], f: StringField) -> &'a [u8] {
     wire::part_of(case, f.start, f.len)
 }
 
@@ -145,15 +145,15 @@ fn all_good(segs: &[u8], count: usize) -> bool {
 }
 
 // A list: count, segments.
-pub(crate) fn list(case: &[u8], at: usize) -> List {
+pub(crate) fn list(case: &[u8], at: usize) -> ListField {
     let count = wire::u16_at(case, at) as usize;
     let start = skip(case, at, 2);
     let next = skip(case, start, SEG * count);
     let segs = wire::part_of(case, start, SEG * count);
     if count <= MAX_LIST && all_good(segs, count) {
-        return List { start, count, next };
+        return ListField { start, count, next };
     }
-    List {
+    ListField {
         start,
         count,
         next: OUT,
@@ -168,7 +168,7 @@ fn or_blank(t: Taken) -> Segment {
 }
 
 // The places are filled from the front, and the count is passed as it stands.
-pub(crate) fn path(case: &[u8], list: List) -> Path {
+pub(crate) fn path(case: &[u8], list: ListField) -> Path {
     let count = list.count;
     let blank = Slot {
         segment: Segment::Class(0),

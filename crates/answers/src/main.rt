@@ -56,7 +56,23 @@ fn finish(line: Line, case: &[u8], lent: &mut [u8], reply: &mut [u8], text: &mut
     }
 }
 
-// What came of the input goes to the line that it belongs to.
+// A byte of the input goes to the line that it belongs to.
+fn step(
+    b: u8,
+    line: Line,
+    case: &mut [u8],
+    lent: &mut [u8],
+    reply: &mut [u8],
+    text: &mut [u8],
+) -> Line {
+    if b == NEWLINE {
+        finish(line, case, lent, reply, text);
+        return lines::blank_line();
+    }
+    lines::take_char(line, b, case)
+}
+
+// What came of the input, byte by byte.
 fn feed(
     chunk: &[u8],
     line: Line,
@@ -67,41 +83,33 @@ fn feed(
 ) -> Line {
     let mut l = line;
     for i in 0..chunk.len() {
-        let b = wire::byte_at(chunk, i);
-        if b == NEWLINE {
-            finish(l, case, lent, reply, text);
-            l = lines::blank_line();
-        } else {
-            l = lines::take_char(l, b, case);
-        }
+        l = step(wire::byte_at(chunk, i), l, case, lent, reply, text);
     }
     l
 }
 
 // A proved loop has to end, and nothing says that the input does. So the turns are counted down from a number that no run uses up.
+// A last line without a newline is answered too.
+fn run(chunk: &mut [u8], case: &mut [u8], lent: &mut [u8], reply: &mut [u8], text: &mut [u8]) {
+    let mut line = lines::blank_line();
+    let mut turns = u64::MAX;
+    while turns > 0 {
+        let got = libc::read(0, chunk);
+        let n = io::count(got, chunk);
+        if n == 0 {
+            finish(line, case, lent, reply, text);
+            return;
+        }
+        line = feed(&chunk[..n], line, case, lent, reply, text);
+        turns -= 1;
+    }
+}
+
 fn main() {
     let mut chunk = io::large_buffer();
     let mut case = [0u8; MAX_CASE];
     let mut lent = [0u8; MAX_ROOM];
     let mut reply = [0u8; MAX_REPLY];
     let mut text = [0u8; 2 * MAX_REPLY + 1];
-    let mut line = lines::blank_line();
-    let mut turns = u64::MAX;
-    while turns > 0 {
-        let got = libc::read(0, &mut chunk);
-        let n = io::count(got, &chunk);
-        if n == 0 {
-            break;
-        }
-        line = feed(
-            &chunk[..n],
-            line,
-            &mut case,
-            &mut lent,
-            &mut reply,
-            &mut text,
-        );
-        turns -= 1;
-    }
-    finish(line, &case, &mut lent, &mut reply, &mut text);
+    run(&mut chunk, &mut case, &mut lent, &mut reply, &mut text);
 }

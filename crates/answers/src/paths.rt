@@ -67,17 +67,22 @@ fn write_path(case: &[u8], lent: &mut [u8], answer: &mut [u8]) -> usize {
     write_all(path, fields::bytes(case, pool), &mut lent[0..room], answer)
 }
 
+// A slot of the list, or one past its end.
+fn put_slot(x: Segment, is_listed: bool, answer: &mut [u8], at: usize) {
+    if is_listed {
+        reply::segment(x, answer, at);
+    }
+}
+
 // A list as a case has it, behind the byte that accepts.
 fn list(p: Path, answer: &mut [u8]) -> usize {
     let count = p.count;
     wire::put_byte(answer, 0, 0);
     wire::put_u16(answer, 1, (count % 65536) as u16);
     for i in 0..epath::MAX_SEGMENTS {
-        if i < count {
-            let slot = p.slots[i];
-            let x = slot.segment;
-            reply::segment(x, answer, 3 + fields::SEG * i);
-        }
+        let slot = p.slots[i];
+        let x = slot.segment;
+        put_slot(x, i < count, answer, 3 + fields::SEG * i);
     }
     3 + fields::SEG * (count % 65536)
 }

@@ -49,12 +49,24 @@ pub(crate) fn counted(c: Counted, reply: &mut [u8]) -> usize {
 
 // A writer's answer, with the whole output behind it.
 pub(crate) fn wrote(w: Wrote, out: &[u8], reply: &mut [u8]) -> usize {
-    let n = sized(w, reply);
-    wire::put_bytes(reply, n, out);
-    n + out.len()
+    match w {
+        Wrote::Size(n) => {
+            number(n, reply);
+            wire::put_bytes(reply, 5, out);
+            5 + out.len()
+        }
+        Wrote::Refused(e) => {
+            refused(e, reply);
+            wire::put_bytes(reply, 1, out);
+            1 + out.len()
+        }
+    }
 }
 
 fn put_segment(kind: u8, number: u32, start: u32, len: u32, reply: &mut [u8], at: usize) {
+    if reply.len() <= at {
+        return;
+    }
     wire::put_byte(reply, at, kind);
     wire::put_u32(reply, at + 1, number);
     wire::put_u32(reply, at + 5, start);
