@@ -1,4 +1,4 @@
-// Answers each case on standard input with one line of hex: README.md has the form of a case. A line that is no case is answered `bad`.
+// Answers each case on standard input with one line of hex: docs/ANSWERS.md has the form of both. A line that is no case is answered `bad`.
 mod fields; // fields.rt: the fields of a case
 mod reply; // reply.rt: the bytes of an answer
 mod paths; // paths.rt: operations 01 to 07
