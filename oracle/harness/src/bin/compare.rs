@@ -1,0 +1,52 @@
+//! compare [--seed S] [--count N] [--answers PROGRAM]     asks the program, the crate and the judge
+//! compare --record FOLDER                                writes FOLDER/stdin and FOLDER/stdout
+//! compare --recorded FOLDER                              asks the crate and the judge again for what stands there
+//! The last line is `N compared, D differ`; the status is 1 where anything differs.
+
+use harness::tally::Tally;
+use harness::{record, run};
+
+fn main() {
+    let mut seed = 1;
+    let mut count = 1_000_000;
+    let mut answers = "target/bin/answers".to_string();
+    let (mut to, mut from) = (None, None);
+    let mut args = std::env::args().skip(1);
+    while let Some(a) = args.next() {
+        let Some(value) = args.next() else { usage(&a) };
+        let number = || value.parse().unwrap_or_else(|_| usage(&value));
+        match a.as_str() {
+            "--seed" => seed = number(),
+            "--count" => count = number(),
+            "--answers" => answers = value,
+            "--record" => to = Some(value),
+            "--recorded" => from = Some(value),
+            _ => usage(&a),
+        }
+    }
+    let mut tally = Tally::new(if from.is_some() { "recorded" } else { "answers" });
+    if let Some(folder) = to {
+        record::write(&folder).unwrap_or_else(|e| fail(&format!("{folder}: {e}")));
+        return;
+    }
+    if let Some(folder) = from {
+        record::again(&folder, &mut tally).unwrap_or_else(|e| fail(&format!("{folder}: {e}")));
+    } else {
+        if !std::path::Path::new(&answers).exists() {
+            fail(&format!("no program {answers}: build it, or name another with --answers"));
+        }
+        run::compare(&answers, seed, count, &mut tally);
+    }
+    if !tally.report() {
+        std::process::exit(1);
+    }
+}
+
+fn usage(at: &str) -> ! {
+    fail(&format!("{at}? compare [--seed S] [--count N] [--answers PROGRAM] | --record FOLDER | --recorded FOLDER"))
+}
+
+fn fail(text: &str) -> ! {
+    eprintln!("{text}");
+    std::process::exit(2)
+}

@@ -1,0 +1,89 @@
+//! The cases. Each group of operations has files of its own below; a later landing adds its file, and a line to
+//! `fixed` and to `random`.
+
+pub mod lines;
+pub mod path_lists;
+pub mod path_reads;
+pub mod path_refusals;
+pub mod scripts;
+
+use crate::ask_crate;
+use crate::case::{reader_line, Plain, Writer};
+use crate::rng::Rng;
+
+/// Who says what the answer must be.
+pub enum Truth {
+    /// the crate: this line
+    Crate(Vec<u8>),
+    /// the crate: the input of 05 is what it wrote for this list, so the list has to come back
+    List { list: Vec<Plain>, input: Vec<u8> },
+    /// the crate: the input of 06 begins with what it wrote for this segment, in so many bytes
+    Front { first: Plain, size: u32, input: Vec<u8> },
+    /// the judge; where 05 or 06 accepts all the same, the crate has to write the input again from what was read
+    Input(Vec<u8>),
+    /// the judge alone
+    Judge,
+}
+
+pub struct Case {
+    pub line: Vec<u8>,
+    pub truth: Truth,
+}
+
+pub type Sink<'a> = dyn FnMut(Case) + 'a;
+
+/// The same in every run: short cases exhaustively, and both sides of every limit.
+pub fn fixed(to: &mut Sink) {
+    path_lists::fixed(to);
+    path_reads::fixed(to);
+    path_refusals::fixed(to);
+    lines::fixed(to);
+}
+
+/// One draw: a case or a few that belong together.
+pub fn random(rng: &mut Rng, to: &mut Sink) {
+    match rng.below(100) {
+        0..=29 => path_lists::random(rng, to),
+        30..=44 => path_lists::random_segment(rng, to),
+        45..=79 => path_reads::random(rng, to),
+        80..=92 => path_refusals::random(rng, to),
+        _ => lines::random(rng, to),
+    }
+}
+
+/// A case of 01 to 04: the crate's where it is in the domain, else the judge's.
+pub fn ask(to: &mut Sink, w: &Writer) {
+    let truth = ask_crate::answer(w).map_or(Truth::Judge, Truth::Crate);
+    to(Case { line: w.line(), truth });
+}
+
+/// An input for one of the readers, of which nothing is known.
+pub fn ask_reader(to: &mut Sink, op: u8, input: &[u8]) {
+    let truth = if op == 7 { Truth::Judge } else { Truth::Input(input.to_vec()) };
+    to(Case { line: reader_line(op, input), truth });
+}
+
+/// What the crate wrote for a list, given to the three readers.
+pub fn read_back(to: &mut Sink, list: &[Plain], input: &[u8]) {
+    // an empty link is written as link 0, and reads back as that
+    let list: Vec<Plain> = list.iter().map(normal).collect();
+    // 06 reads the front, then the front of what is left; of a long list only the first few, for the sake of time
+    let mut rest = input;
+    for first in list.iter().take(4) {
+        let size = ask_crate::one(first).and_then(Result::ok).map_or(0, |b| b.len());
+        let truth = Truth::Front { first: first.clone(), size: size as u32, input: rest.to_vec() };
+        to(Case { line: reader_line(6, rest), truth });
+        rest = rest.get(size..).unwrap_or_default();
+    }
+    let count = [&[0][..], &(list.len() as u32).to_le_bytes()].concat();
+    to(Case { line: reader_line(7, input), truth: Truth::Crate(crate::case::digits(&count)) });
+    to(Case { line: reader_line(5, input), truth: Truth::List { list, input: input.to_vec() } });
+}
+
+fn normal(p: &Plain) -> Plain {
+    let mut p = p.clone();
+    if p.kind == crate::case::PORT && p.bytes.is_empty() {
+        p.bytes.push(0);
+    }
+    p
+}

@@ -1,0 +1,111 @@
+//! The recorded cases and answers: two files, `stdin` and `stdout`. List 1 holds the crate's answers, list 2 ours,
+//! that is the judge's. Neither holds anything that our program said.
+
+mod crate_list;
+mod our_list;
+
+use crate::ask_crate;
+use crate::case::Writer;
+use crate::judge;
+use crate::tally::{Source, Tally};
+use std::io::{Error, ErrorKind, Result};
+use std::path::Path;
+
+/// What the first line of each list begins with; `again` goes by it.
+const LIST_1: &str = "# List 1";
+const LIST_2: &str = "# List 2";
+
+const HEAD_1: &str = ": the answers of the Rust crate rseip-cip 0.2.1.
+# Made by `sh oracle/compare.sh PAGES --record`: the crate's pages, unchanged, in a release build, were asked each
+# case and an answer line was made from the bytes and the count they gave. No program of ours had a part in it.
+# The choice is the harness's and always the same; what is drawn by chance has the seed 2021.
+# What rests on the stand-in for rseip_core and not on the pages: that String is UTF-8, and the order of IntoIter.
+# Operations 01 to 04; the crate has no path reader, no refusal and no lent output (the A5 after the bytes is ours).
+";
+
+const HEAD_2: &str = ": ours. No Rust gave these answers.
+# Made by the same command: oracle/harness/src/judge.rs answered each, which is written from document 01 and from
+# the protocol's page, apart from the program that is asked. Refusals and their order, the readers, symbols that no
+# Rust String holds, and lines that are no case.
+";
+
+/// The text of `stdin`, as it grows.
+#[derive(Default)]
+pub struct Script(Vec<u8>);
+
+impl Script {
+    /// A comment line that names what follows.
+    fn group(&mut self, name: &str) {
+        self.0.extend(format!("# {name}\n").bytes());
+    }
+    fn line(&mut self, line: &[u8]) {
+        self.0.extend(line);
+        self.0.push(b'\n');
+    }
+    fn text(&mut self, line: &str) {
+        self.line(line.as_bytes());
+    }
+}
+
+/// Writes both files.
+pub fn write(folder: &str) -> Result<()> {
+    let mut s = Script::default();
+    s.0.extend([LIST_1, HEAD_1].concat().bytes());
+    crate_list::write(&mut s);
+    let crate_part = s.0.len();
+    s.0.extend([LIST_2, HEAD_2].concat().bytes());
+    our_list::write(&mut s);
+
+    let mut answers = vec![];
+    for line in cases(&s.0[..crate_part]) {
+        answers.extend(crate_answer(line)?);
+        answers.push(b'\n');
+    }
+    answers.extend(judge::whole(&s.0[crate_part..]).bytes());
+    std::fs::write(Path::new(folder).join("stdin"), &s.0)?;
+    std::fs::write(Path::new(folder).join("stdout"), &answers)?;
+    println!(
+        "{} cases of the crate's, {} bytes of cases, {} of answers",
+        cases(&s.0[..crate_part]).count(),
+        s.0.len(),
+        answers.len()
+    );
+    Ok(())
+}
+
+/// Asks the crate and the judge again for what stands in the two files.
+pub fn again(folder: &str, tally: &mut Tally) -> Result<()> {
+    let stdin = std::fs::read(Path::new(folder).join("stdin"))?;
+    let stdout = std::fs::read(Path::new(folder).join("stdout"))?;
+    let mut answers = stdout.split(|c| *c == b'\n');
+    let mut from = None;
+    for line in stdin.split(|c| *c == b'\n') {
+        if line.starts_with(LIST_1.as_bytes()) {
+            from = Some(Source::Crate);
+        } else if line.starts_with(LIST_2.as_bytes()) {
+            from = Some(Source::Judge);
+        }
+        let want = match (from, judge::line(line)) {
+            (_, None) => continue,
+            (Some(Source::Crate), _) => crate_answer(line)?,
+            (Some(Source::Judge), Some(a)) => a.into_bytes(),
+            (None, _) => return Err(Error::new(ErrorKind::InvalidData, "a case before the first list")),
+        };
+        // what stands in stdout takes the place of the program's answer
+        tally.add(from.unwrap(), line, &want, answers.next().unwrap_or(b"nothing"));
+    }
+    if answers.next() != Some(b"") || answers.next().is_some() {
+        tally.broken("stdout has more answers than stdin has cases, or no last newline", b"");
+    }
+    Ok(())
+}
+
+fn cases(text: &[u8]) -> impl Iterator<Item = &[u8]> {
+    text.split(|c| *c == b'\n').filter(|l| !l.is_empty() && l[0] != b'#')
+}
+
+fn crate_answer(line: &[u8]) -> Result<Vec<u8>> {
+    Writer::of_line(line)
+        .and_then(|w| ask_crate::answer(&w))
+        .ok_or_else(|| Error::new(ErrorKind::InvalidData, format!("not a case of the crate's: {}", line.escape_ascii())))
+}
