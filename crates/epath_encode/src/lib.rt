@@ -9,7 +9,7 @@ ghost use mathlib.Core.Path.{_≡_};
 ghost use mathlib.Core.List.{[]};
 ghost use Rattle.epath_encode.specs.Lists.{pathOf, backplane, isPort};
 
-// ---- limits and codes, each beside its twin in specs/Limits.antt
+// ---- limits and codes, each beside its twin in specs/Limits.antt; the reader, epath, uses them too
 
 // Segments in a list.
 pub const MAX_SEGMENTS: usize = 127;
