@@ -13,13 +13,14 @@ use Rattle.wire.proofs.put_u16
 use Rattle.wire.proofs.put_u32
 use Rattle.wire.proofs.put_bytes
 use Rattle.wire.proofs.Exact as Wire
-use Rattle.epath.proofs.blank_path
-use Rattle.epath.proofs.default_port
-use Rattle.epath.proofs.is_port
-use Rattle.epath.proofs.segment_size
-use Rattle.epath.proofs.path_size
-use Rattle.epath.proofs.write_segment
-use Rattle.epath.proofs.write_path
+use Rattle.epath_encode.proofs.blank_path
+use Rattle.epath_encode.proofs.default_port
+use Rattle.epath_encode.proofs.is_port
+use Rattle.epath_encode.proofs.segment_size
+use Rattle.epath_encode.proofs.path_size
+use Rattle.epath_encode.proofs.write_segment
+use Rattle.epath_encode.proofs.write_path
+use Rattle.epath_encode.proofs.Exact as EpathEncode
 use Rattle.epath.proofs.read_segment
 use Rattle.epath.proofs.check_path
 use Rattle.epath.proofs.read_path
@@ -36,7 +37,7 @@ pub record Claims : Type 2 where
   pub put-u16 : Exact put_u16.ended (λ _. put_u16.clauses)
   pub put-u32 : Exact put_u32.ended (λ _. put_u32.clauses)
   pub put-bytes : Exact put_bytes.ended (λ _. put_bytes.clauses)
-  -- epath
+  -- epath_encode
   pub blank-path : Exact blank_path.ended (λ _. blank_path.clauses)
   pub default-port : Exact default_port.ended (λ _. default_port.clauses)
   pub is-port : Exact is_port.ended (λ _. is_port.clauses)
@@ -44,6 +45,7 @@ pub record Claims : Type 2 where
   pub path-size : Exact path_size.ended (λ _. path_size.clauses)
   pub write-segment : Exact write_segment.ended (λ _. write_segment.clauses)
   pub write-path : Exact write_path.ended (λ _. write_path.clauses)
+  -- epath
   pub read-segment : Exact read_segment.ended (λ _. read_segment.clauses)
   pub check-path : Exact check_path.ended (λ _. check_path.clauses)
   pub read-path : Exact read_path.ended (λ _. read_path.clauses)
@@ -60,13 +62,13 @@ claims =
       put-u16 = Wire.put-u16-exact;
       put-u32 = Wire.put-u32-exact;
       put-bytes = Wire.put-bytes-exact;
-      blank-path = Epath.blank-path-exact;
-      default-port = Epath.default-port-exact;
-      is-port = Epath.is-port-exact;
-      segment-size = Epath.segment-size-exact;
-      path-size = Epath.path-size-exact;
-      write-segment = Epath.write-segment-exact;
-      write-path = Epath.write-path-exact;
+      blank-path = EpathEncode.blank-path-exact;
+      default-port = EpathEncode.default-port-exact;
+      is-port = EpathEncode.is-port-exact;
+      segment-size = EpathEncode.segment-size-exact;
+      path-size = EpathEncode.path-size-exact;
+      write-segment = EpathEncode.write-segment-exact;
+      write-path = EpathEncode.write-path-exact;
       read-segment = Epath.read-segment-exact;
       check-path = Epath.check-path-exact;
       read-path = Epath.read-path-exact;

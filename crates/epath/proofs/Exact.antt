@@ -5,20 +5,13 @@ use Rattle.exact.specs.Exact.{Exact, exact, says, same}
 use Rattle.wire.specs.Refusals.{number}
 use Rattle.wire.specs.declared.Counted.{Counted}
 use Rattle.wire.proofs.Rules.{never}
-use Rattle.wire.proofs.Answers.{number-one, size-one, count-one}
+use Rattle.wire.proofs.Answers.{number-one, count-one}
 use Rattle.epath.specs.Reads.{paperFront}
 use Rattle.epath.specs.Paths.{PathFound, paperPath}
 use Rattle.epath.specs.declared.SegmentRead.{SegmentRead}
 use Rattle.epath.specs.declared.SegmentRead.the-variants.{Found, Refused}
-use Rattle.epath.specs.declared.Path.{Path}
+use Rattle.epath_encode.specs.declared.Path.{Path}
 use Rattle.epath.specs.declared.PathRead.{PathRead}
-use Rattle.epath.proofs.blank_path
-use Rattle.epath.proofs.default_port
-use Rattle.epath.proofs.is_port
-use Rattle.epath.proofs.encode.segment_size
-use Rattle.epath.proofs.encode.path_size
-use Rattle.epath.proofs.encode.write_segment
-use Rattle.epath.proofs.encode.write_path
 use Rattle.epath.proofs.decode.read_segment
 use Rattle.epath.proofs.decode.check_path
 use Rattle.epath.proofs.decode.read_path
@@ -39,33 +32,6 @@ path-one a b h =
     let p : a .answer ≡ b .answer = count-one (a .answer) (b .answer) (ap (λ (x : PathFound). x .answer) h) in
     let q : a .path ≡ b .path = ap (λ (x : PathFound). x .path) h in
     ap (λ (x : Counted). record { answer = x; path = a .path }) p ∙ ap (λ (y : Path). record { answer = b .answer; path = y }) q
-
--- ---- values
-
-pub blank-path-exact : Exact blank_path.ended (λ _. blank_path.clauses)
-blank-path-exact = exact (λ w κs a. (tt, λ m. tt)) (λ w κs a g z e. search says) (λ t. (same (t .said) (t .said′), refl))
-
-pub default-port-exact : Exact default_port.ended (λ _. default_port.clauses)
-default-port-exact = exact (λ w κs a. (tt, λ m. tt)) (λ w κs a g z e. search says) (λ t. (same (t .said) (t .said′), refl))
-
-pub is-port-exact : Exact is_port.ended (λ _. is_port.clauses)
-is-port-exact = exact (λ w κs a. (tt, λ m. tt)) (λ w κs a g z e. search says) (λ t. (same (t .said) (t .said′), refl))
-
--- ---- sizes and writers
-
-pub segment-size-exact : Exact segment_size.ended (λ _. segment_size.clauses)
-segment-size-exact = exact (λ w κs a. (tt, λ m. tt)) (λ w κs a g z e. search says) (λ t. (size-one (t .z) (t .z′) (same (t .said) (t .said′)), refl))
-
-pub path-size-exact : Exact path_size.ended (λ _. path_size.clauses)
-path-size-exact = exact (λ w κs a. (tt, λ m. tt)) (λ w κs a g z e. search says) (λ t. (size-one (t .z) (t .z′) (same (t .said) (t .said′)), refl))
-
-pub write-segment-exact : Exact write_segment.ended (λ _. write_segment.clauses)
-write-segment-exact = exact (λ w κs a. (tt, λ m. tt)) (λ w κs a g z e. search says) (λ t.
-    (size-one (t .z) (t .z′) (same (t .said .0) (t .said′ .0)), λ i. (tt, (tt, (same (t .said .1) (t .said′ .1) i, tt)))))
-
-pub write-path-exact : Exact write_path.ended (λ _. write_path.clauses)
-write-path-exact = exact (λ w κs a. (tt, λ m. tt)) (λ w κs a g z e. search says) (λ t.
-    (size-one (t .z) (t .z′) (same (t .said .0) (t .said′ .0)), λ i. (tt, (tt, (same (t .said .1) (t .said′ .1) i, tt)))))
 
 -- ---- readers
 

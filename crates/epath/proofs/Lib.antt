@@ -1,13 +1,10 @@
 pub mod ReadLaws
-pub mod Forms
+pub mod Begins
 pub mod Got
 pub mod Places
 pub mod Walks
 pub mod Back
 pub mod Held
-pub mod SizeLaws
-pub mod WriteLaws
-pub mod PathLaws
 pub mod RoundTrip
 pub mod Theorems
 pub mod Exact

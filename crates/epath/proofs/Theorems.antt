@@ -1,106 +1,30 @@
--- What a user may rely on of paths, said of what the functions answer and leave: even length, joining, read back, written back. Assumes nothing.
+-- What a user may rely on of paths, said of what the functions answer and leave: read back, written back. Assumes nothing.
 use Prim.Native.Nat.{ℕ, zero, suc, _+_, _-_, _%_, _≤_, _<_}
 use mathlib.Core.Path.{_≡_, refl, sym, ap, _∙_, subst}
-use mathlib.Core.List.{List, [], _∷_, _++_, map}
+use mathlib.Core.List.{List, [], _∷_, map}
 use native.Mathlib.Omega.{arith}
 use lib.ListN.{length, take, drop, length-append, length-replicate, length-map}
 use lib.Seq.{sets-eq, take-append-seam}
 use Rattle.wire.specs.Numbers.{Bytes}
-use Rattle.wire.specs.Parts.{overlay}
-use Rattle.wire.specs.Answers.{Answer, done, refused, over, plus, withRoom, written}
+use Rattle.wire.specs.Answers.{Answer, done, refused, over, plus}
 use Rattle.wire.specs.Folds.{sizes}
 use Rattle.wire.proofs.Rules.{never, all-keep}
-use Rattle.wire.proofs.Answers.{room-kept, room-was}
+use Rattle.wire.proofs.Answers.{room-was}
 use Rattle.wire.proofs.Stores.{part-length}
-use Rattle.wire.proofs.Folds.{sizes-append, joined-append}
-use Rattle.epath.specs.Limits.{maxSegments, maxSymbol, maxLink, symbolCode, classCode, instanceCode, attributeCode, elementCode}
-use Rattle.epath.specs.Segments.{Seg, symbol, class, instance, attribute, element, port, logical, padOf, padded, portHead, encodeSeg, encode, Fine, AllFine, norm}
-use Rattle.epath.specs.Lists.{meaning, slotsOf, segs, segsOf, blank, blanks, pathOf, startOf, lenOf}
-use Rattle.epath.specs.Writes.{segmentRules, segmentSize, pathSize, Good, AllGoodIn}
+use Rattle.epath_encode.specs.Limits.{maxSegments, maxSymbol, maxLink}
+use Rattle.epath_encode.specs.Segments.{Seg, encodeSeg, encode, Fine, AllFine, norm}
+use Rattle.epath_encode.specs.Lists.{meaning, slotsOf, segs, segsOf, blank, blanks, pathOf, startOf, lenOf}
+use Rattle.epath_encode.specs.Writes.{segmentRules, segmentSize, pathSize, Good, AllGoodIn}
 use Rattle.epath.specs.Paths.{walk, countOf, listOf, PathFound, readPath, checkPath, sees, parsePath}
-use Rattle.epath.specs.declared.Segment.{Segment}
-use Rattle.epath.specs.declared.Segment.the-variants.{Symbol, Class, Instance, Attribute, Element, Port}
-use Rattle.epath.specs.declared.Slot.{Slot}
-use Rattle.epath.specs.declared.Path.{Path}
-use Rattle.epath.proofs.Forms.{logical-each}
-use Rattle.epath.proofs.SizeLaws.{length-padded, keeps-inside}
-use Rattle.epath.proofs.PathLaws.{sizeIn, PathSized, path-sized}
+use Rattle.epath_encode.specs.declared.Segment.{Segment}
+use Rattle.epath_encode.specs.declared.Segment.the-variants.{Symbol, Class, Instance, Attribute, Element, Port}
+use Rattle.epath_encode.specs.declared.Slot.{Slot}
+use Rattle.epath_encode.specs.declared.Path.{Path}
+use Rattle.epath_encode.proofs.SizeLaws.{keeps-inside}
+use Rattle.epath_encode.proofs.PathLaws.{sizeIn, PathSized, path-sized}
 use Rattle.epath.proofs.Held.{AllHeld, all-held}
 use Rattle.epath.proofs.RoundTrip.{Written, read-of-written, written-of-read}
-
--- ---- every encoding has even length
-
-pad-evens : (n r : ℕ) → n % 2 ≡ r → (n + length (padOf r)) % 2 ≡ 0
-pad-evens n zero h = omega arith
-pad-evens n (suc r) h = omega arith
-
-padded-evens : (xs : List ℕ) → length (padded xs) % 2 ≡ 0
-padded-evens xs = ap (λ (k : ℕ). k % 2) (length-padded xs) ∙ pad-evens (length xs) (length xs % 2) refl
-
-logical-even : (code v : ℕ) → length (logical code v) % 2 ≡ 0
-logical-even code v = logical-each code v (λ l. length l % 2 ≡ 0) refl refl refl
-
-pub segment-even : (x : Seg) → length (encodeSeg x) % 2 ≡ 0
-segment-even (symbol bs) = padded-evens (symbolCode ∷ length bs ∷ bs)
-segment-even (class v) = logical-even classCode v
-segment-even (instance v) = logical-even instanceCode v
-segment-even (attribute v) = logical-even attributeCode v
-segment-even (element v) = logical-even elementCode v
-segment-even (port p link) = padded-evens (portHead p (length link) ++ link)
-
-pub path-even : (xs : List Seg) → length (encode xs) % 2 ≡ 0
-path-even [] = refl
-path-even (x ∷ xs) = omega (arith, length-append (encodeSeg x) (encode xs), segment-even x, path-even xs)
-
--- so is every size that is answered
-pub size-even : (pool : List ℕ) (p : Path) (n : ℕ) → pathSize pool p ≡ done n → n % 2 ≡ 0
-size-even pool p n h = ap (λ (k : ℕ). k % 2) (path-sized pool p n h .size) ∙ path-even (segsOf pool p)
-
--- ---- what write_path answers and leaves
-
-abbrev pub answerOf : List ℕ → Path → List ℕ → Answer ℕ
-answerOf pool p old = withRoom (pathSize pool p) (length old)
-
-abbrev pub leftBy : List ℕ → Path → List ℕ → List ℕ
-leftBy pool p old = written (answerOf pool p old) (encode (segsOf pool p)) old
-
--- an accepted path's bytes are its encoding
-pub left-front : (pool : List ℕ) (p : Path) (old : List ℕ) (n : ℕ) → answerOf pool p old ≡ done n → take n (leftBy pool p old) ≡ encode (segsOf pool p)
-unfolding overlay
-left-front pool p old n h =
-    let bs : List ℕ = encode (segsOf pool p) in
-    let w : PathSized pool p n = path-sized pool p n (room-was (pathSize pool p) (length old) n h .0) in
-    ap (λ (y : Answer ℕ). take n (written y bs old)) h
-    ∙ ap (λ (k : ℕ). take k (bs ++ drop (length bs) old)) (w .size)
-    ∙ take-append-seam bs (drop (length bs) old)
-
--- ---- joining: a list that is two lists end to end is written as the two end to end, over one pool
-
-segs-append : (pool : List ℕ) (a b : List Slot) → segs pool (a ++ b) ≡ segs pool a ++ segs pool b
-segs-append pool [] b = refl
-segs-append pool (x ∷ a) b = ap (λ (l : List Seg). meaning pool (x .segment) ∷ l) (segs-append pool a b)
-
-pub encode-append : (a b : List Seg) → encode (a ++ b) ≡ encode a ++ encode b
-encode-append a b = joined-append encodeSeg a b
-
-module _ (pool : List ℕ) (p q r : Path) (few : r .count ≤ maxSegments) (is : slotsOf r ≡ slotsOf p ++ slotsOf q) where
-  pub joined-bytes : encode (segsOf pool r) ≡ encode (segsOf pool p) ++ encode (segsOf pool q)
-  joined-bytes = ap (λ (l : List Slot). encode (segs pool l)) is ∙ ap encode (segs-append pool (slotsOf p) (slotsOf q)) ∙ encode-append (segsOf pool p) (segsOf pool q)
-
-  pub joined-size : (m n : ℕ) → pathSize pool p ≡ done m → pathSize pool q ≡ done n → pathSize pool r ≡ done (m + n)
-  unfolding pathSize
-  joined-size m n e f =
-      all-keep (over (r .count) maxSegments 3 ∷ []) (sizes (sizeIn pool) (slotsOf r)) (few, tt)
-      ∙ ap (sizes (sizeIn pool)) is
-      ∙ sizes-append (sizeIn pool) (slotsOf p) (slotsOf q)
-      ∙ rw (path-sized pool p m e .sum, path-sized pool q n f .sum)
-
-  -- what write_path leaves of the joined list is what it leaves of the first and then what it leaves of the second
-  pub joined-written : (m n : ℕ) (old old₁ old₂ : List ℕ) → answerOf pool p old₁ ≡ done m → answerOf pool q old₂ ≡ done n → m + n ≤ length old
-      → (answerOf pool r old ≡ done (m + n)) × (take (m + n) (leftBy pool r old) ≡ take m (leftBy pool p old₁) ++ take n (leftBy pool q old₂))
-  joined-written m n old old₁ old₂ e f g =
-      let a : answerOf pool r old ≡ done (m + n) = room-kept (pathSize pool r) (length old) (m + n) (joined-size m n (room-was (pathSize pool p) (length old₁) m e .0) (room-was (pathSize pool q) (length old₂) n f .0)) g in
-      (a, left-front pool r old (m + n) a ∙ joined-bytes ∙ rw (left-front pool p old₁ m e, left-front pool q old₂ n f))
+use Rattle.epath_encode.proofs.Theorems.{answerOf, leftBy, left-front, path-even}
 
 -- ---- what was written reads back
 

@@ -1,0 +1,44 @@
+-- `epath_encode::encode::put_padded` meets its contract. Assumes nothing.
+--: use Rattle.epath_encode.proofs.WriteLaws.{pad-laws}
+--: * = search (pad-laws, needs) fits 5000
+use Rattle.epath_encode.proofs.WriteLaws.{pad-laws}
+use borrow.Author.Needs.{needs}
+use Rattle.epath_encode.proofs.encode.put_padded.Statement.{statement}
+use Rattle.epath_encode.proofs.encode.put_padded.Tie as tie
+
+put-bytes-requires : tie.Need-put-bytes-requires
+put-bytes-requires c κs = search needs
+
+add-end : tie.Need-add-end
+add-end c = search needs
+
+same-length : tie.Need-same-length
+same-length c = search needs
+
+returns : tie.Need-returns
+returns c = search (pad-laws, needs) fits 5000
+
+put-byte-requires : tie.Need-put-byte-requires
+put-byte-requires c κs = search needs
+
+add-result : tie.Need-add-result
+add-result c = search needs
+
+same-length-2 : tie.Need-same-length-2
+same-length-2 c = search needs
+
+returns-2 : tie.Need-returns-2
+returns-2 c = search (pad-laws, needs) fits 5000
+
+pub put-padded-spec : {M : Type 1} → statement M
+put-padded-spec =
+    tie.close
+    (tie.spec
+    put-bytes-requires
+    add-end
+    same-length
+    returns
+    put-byte-requires
+    add-result
+    same-length-2
+    returns-2)
