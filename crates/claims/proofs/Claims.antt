@@ -13,6 +13,11 @@ use Rattle.wire.proofs.put_u16
 use Rattle.wire.proofs.put_u32
 use Rattle.wire.proofs.put_bytes
 use Rattle.wire.proofs.Exact as Wire
+use Rattle.lines.proofs.hex_digit
+use Rattle.lines.proofs.blank_line
+use Rattle.lines.proofs.take_char
+use Rattle.lines.proofs.line_case
+use Rattle.lines.proofs.Exact as Lines
 use Rattle.epath_encode.proofs.blank_path
 use Rattle.epath_encode.proofs.default_port
 use Rattle.epath_encode.proofs.is_port
@@ -37,6 +42,11 @@ pub record Claims : Type 2 where
   pub put-u16 : Exact put_u16.ended (λ _. put_u16.clauses)
   pub put-u32 : Exact put_u32.ended (λ _. put_u32.clauses)
   pub put-bytes : Exact put_bytes.ended (λ _. put_bytes.clauses)
+  -- lines
+  pub hex-digit : Exact hex_digit.ended (λ _. hex_digit.clauses)
+  pub blank-line : Exact blank_line.ended (λ _. blank_line.clauses)
+  pub take-char : Exact take_char.ended (λ _. take_char.clauses)
+  pub line-case : Exact line_case.ended (λ _. line_case.clauses)
   -- epath_encode
   pub blank-path : Exact blank_path.ended (λ _. blank_path.clauses)
   pub default-port : Exact default_port.ended (λ _. default_port.clauses)
@@ -62,6 +72,10 @@ claims =
       put-u16 = Wire.put-u16-exact;
       put-u32 = Wire.put-u32-exact;
       put-bytes = Wire.put-bytes-exact;
+      hex-digit = Lines.hex-digit-exact;
+      blank-line = Lines.blank-line-exact;
+      take-char = Lines.take-char-exact;
+      line-case = Lines.line-case-exact;
       blank-path = EpathEncode.blank-path-exact;
       default-port = EpathEncode.default-port-exact;
       is-port = EpathEncode.is-port-exact;
