@@ -8,7 +8,8 @@ use lib.ListN.{length}
 use lib.Dec.{leb}
 use borrow.Author.Tests.{le-leb, lt-leb}
 use Rattle.wire.specs.Numbers.{lowFirst}
-use Rattle.epath_encode.specs.Segments.{pick, logical, padded, portHead, farPort}
+use Rattle.wire.specs.Choice.{pick}
+use Rattle.epath_encode.specs.Segments.{logical, padded, portHead, farPort}
 use Rattle.epath_encode.specs.Limits.{nearPort, farPortCode, longLink}
 
 -- what holds of both holds of the one that is picked

@@ -1,9 +1,9 @@
 -- A segment with its bytes inside, and its encoding in a padded path. CIP Volume 1, Appendix C-1.4. Assumes nothing: these are definitions.
 use Prim.Native.Nat.{ℕ, zero, suc, _+_, _*_, _/_, _%_, _<_, _≤_}
 use mathlib.Core.List.{List, [], _∷_, _++_}
-use mathlib.Core.Bool.{Bool, true, false}
 use lib.ListN.{length}
 use lib.Dec.{leb}
+use Rattle.wire.specs.Choice.{pick}
 use Rattle.wire.specs.Numbers.{lowFirst}
 use Rattle.wire.specs.Folds.{joined}
 use Rattle.epath_encode.specs.Limits.{maxSymbol, maxLink, nearPort, farPortCode, longLink, classCode, instanceCode, elementCode, attributeCode, symbolCode}
@@ -15,11 +15,6 @@ pub data Seg : Type 0 where
   attribute : ℕ → Seg
   element : ℕ → Seg
   port : ℕ → List ℕ → Seg
-
--- the first where the test holds, else the second
-abbrev pub pick {ℓ} : {A : Type ℓ} → Bool → A → A → A
-pick true a b = a
-pick false a b = b
 
 -- C-1.4.2, logical segment: the value in the shortest of 8 bits, 16 and 32; in a padded path a zero stands before the last two
 abbrev pub logical : ℕ → ℕ → List ℕ

@@ -4,7 +4,7 @@ use Prim.Native.Nat.{ℕ, zero, suc, _+_, _*_, _/_, _%_, _-_}
 use mathlib.Core.List.{List, [], _∷_}
 use lib.ListN.{set}
 use lib.Dec.{leb, eqb}
-use mathlib.Core.Bool.{Bool, true, false}
+use Rattle.wire.specs.Choice.{pick}
 use Rattle.lines.specs.declared.Line.{Line}
 use Rattle.lines.specs.declared.Line.the-variants as Line
 use Rattle.lines.specs.declared.Case.{Case}
@@ -12,11 +12,6 @@ use Rattle.lines.specs.declared.Case.the-variants as Case
 
 abbrev pub maxDigits : ℕ
 maxDigits = 600000
-
--- the first where the test holds, else the second
-abbrev pub pick {ℓ} : {A : Type ℓ} → Bool → A → A → A
-pick true a b = a
-pick false a b = b
 
 -- ---- digits
 
