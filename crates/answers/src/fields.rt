@@ -15,7 +15,7 @@ const MAX_LIST: usize = 400;
 pub const SEG: usize = 13;
 
 // No place of a case.
-pub const OUT: usize = usize::MAX;
+const OUT: usize = usize::MAX;
 
 // A byte string: where its bytes are, and where the next field begins.
 pub struct StringField {
@@ -97,7 +97,7 @@ pub(crate) fn bytes<'a>(case: &'a [u8], f: StringField) -> &'a [u8] {
 }
 
 // A segment: kind, number, start, length.
-pub(crate) fn segment(s: &[u8]) -> Taken {
+fn segment(s: &[u8]) -> Taken {
     let kind = wire::byte_at(s, 0);
     let number = wire::u32_at(s, 1);
     let start = wire::u32_at(s, 5);
@@ -114,11 +114,8 @@ pub(crate) fn segment(s: &[u8]) -> Taken {
     Taken::Bad
 }
 
-// The segment at a place.
+// The segment at a place; whether it is whole is told by where it ends.
 pub(crate) fn segment_at(case: &[u8], at: usize) -> Taken {
-    if skip(case, at, SEG) == OUT {
-        return Taken::Bad;
-    }
     segment(wire::part_of(case, at, SEG))
 }
 
@@ -137,7 +134,7 @@ fn is_good(t: Taken) -> bool {
 // Whether each of so many segments can be asked for, those past the list's places too.
 fn all_good(segs: &[u8], count: usize) -> bool {
     for i in 0..MAX_LIST {
-        if i < count && !is_good(segment(wire::part_of(segs, SEG * i, SEG))) {
+        if i < count && !is_good(segment_at(segs, SEG * i)) {
             return false;
         }
     }
@@ -176,9 +173,9 @@ pub(crate) fn path(case: &[u8], list: ListField) -> Path {
     let mut slots = [blank; epath::MAX_SEGMENTS];
     for i in 0..epath::MAX_SEGMENTS {
         if i < count {
-            let s = wire::part_of(case, skip(case, list.start, SEG * i), SEG);
+            let at = skip(case, list.start, SEG * i);
             slots[i] = Slot {
-                segment: or_blank(segment(s)),
+                segment: or_blank(segment_at(case, at)),
             };
         }
     }

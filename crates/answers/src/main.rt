@@ -10,8 +10,8 @@ use lines::Line;
 // Bytes of the longest case.
 const MAX_CASE: usize = lines::MAX_DIGITS / 2;
 
-// No answer is longer: the largest output, and what stands before it.
-const MAX_REPLY: usize = 131072;
+// Bytes of the longest answer: the largest output, behind a byte and its size.
+const MAX_REPLY: usize = MAX_ROOM + 5;
 
 const NEWLINE: u8 = 10;
 

@@ -1,6 +1,5 @@
 // Operations 01 to 07: segments and paths.
 use crate::fields;
-use crate::fields::OUT;
 use crate::fields::Taken;
 use crate::reply;
 use epath::Path;

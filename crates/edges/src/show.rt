@@ -50,10 +50,7 @@ pub(crate) fn counted(n: usize, word: &[u8]) {
 
 // A byte in two digits, with capital letters, which io::print_hex does not give.
 fn hex(b: u8) {
-    let digits = b"0123456789ABCDEF";
-    let high = wire::byte_at(digits, (b / 16) as usize);
-    let rest = wire::byte_at(digits, (b % 16) as usize);
-    words(&[high, rest]);
+    words(&[lines::hex_digit(b / 16), lines::hex_digit(b)]);
 }
 
 // The same, with a space before it.

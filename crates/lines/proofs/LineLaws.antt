@@ -1,10 +1,12 @@
 -- Each end of the code, as a law with plain conditions. Assumes nothing.
-use Prim.Native.Nat.{ℕ, _+_, _*_, _/_, _%_, _-_, _≤_, _<_}
-use mathlib.Core.Path.{_≡_, refl, sym, ap, _∙_}
+use Prim.Native.Nat.{ℕ, _+_, _/_, _%_, _-_, _≤_, _<_}
+use mathlib.Core.Path.{_≡_, sym, ap, _∙_}
 use mathlib.Core.List.{List}
 use native.Mathlib.Omega.{arith}
 use lib.ListN.{set}
-use borrow.Author.Tests.{le-leb, lt-leb, eq-eqb, ne-eqb}
+use mathlib.Core.Bool.{true}
+use lib.Dec.{leb}
+use borrow.Author.Tests.{le-leb, lt-leb, leb-true, eq-eqb, ne-eqb}
 use Rattle.lines.specs.Lines.{maxDigits, noDigit, hexValue, hexDigit, byteOf, nextDigit, keptDigit, nextChar, keptChar, next, kept, caseOf, caseLine}
 use Rattle.lines.specs.declared.Line.{Line}
 use Rattle.lines.specs.declared.Line.the-variants as Line
@@ -99,17 +101,9 @@ module _ (n high b : ℕ) (out : List ℕ) where
   unfolding keptChar
   no-digit h = simp (le-leb noDigit (hexValue b) h)
 
-  no-digit-low : b ≤ 47 → out ≡ keptChar n high b out
-  no-digit-low h = no-digit (omega (arith, below-digits b h))
-
-  pub blank-kept : b ≡ 32 → out ≡ keptChar n high b out
-  blank-kept e = no-digit-low (omega (arith, e))
-
-  pub tab-kept : b ≡ 9 → out ≡ keptChar n high b out
-  tab-kept e = no-digit-low (omega (arith, e))
-
-  pub comment-kept : b ≡ 35 → out ≡ keptChar n high b out
-  comment-kept e = no-digit-low (omega (arith, e))
+  -- a blank, a tab, a comment's mark: each stands below the digits
+  pub low-kept : (c : ℕ) → b ≡ c → leb c 47 ≡ true → out ≡ keptChar n high b out
+  low-kept c e h = no-digit (omega (arith, below-digits b (omega (arith, e, leb-true c 47 h))))
 
   module _ (v : ℕ) (is : v ≡ hexValue b) where
     pub other-kept : noDigit ≤ v → out ≡ keptChar n high b out
@@ -130,7 +124,7 @@ module _ (n high b : ℕ) (out : List ℕ) where
           e ∙ ap (nextDigit n) is
           ∙ simp (ne-eqb b 32 p, ne-eqb b 9 q, ne-eqb b 35 r, lt-leb noDigit (hexValue b) (omega (arith, is, h)))
 
-pub ruleset char-laws = (blank-next, tab-next, comment-next, blank-kept, tab-kept, comment-kept, other-kept, digit-kept, other-next, digit-next)
+pub ruleset char-laws = (blank-next, tab-next, comment-next, low-kept, other-kept, digit-kept, other-next, digit-next)
 
 -- ---- one more character of any line
 module _ (l : Line) (b : ℕ) (out : List ℕ) where

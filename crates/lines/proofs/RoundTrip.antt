@@ -1,19 +1,19 @@
 -- The text of bytes, two capital digits each, is read back as those bytes; blanks count for nothing. Assumes nothing.
-use Prim.Native.Nat.{ℕ, zero, suc, _+_, _*_, _/_, _%_, _-_, _≤_, _<_}
+use Prim.Native.Nat.{ℕ, suc, _+_, _*_, _/_, _%_, _-_, _≤_, _<_}
 use mathlib.Core.Path.{_≡_, refl, sym, ap, _∙_}
 use mathlib.Core.List.{List, [], _∷_}
-use mathlib.Core.Logic.{⊎-elim}
+use mathlib.Core.Logic.{_⊎_, ⊎-elim}
 use native.Mathlib.Omega.{arith}
-use lib.ListN.{length, set, getD}
+use lib.ListN.{length, set}
 use lib.Seq.{sets}
 use Rattle.wire.specs.Numbers.{Bytes}
 use Rattle.wire.proofs.Numbers.{below-or}
-use Rattle.lines.specs.Lines.{maxDigits, noDigit, hexValue, hexDigit, byteOf, hexText, start, nextDigit, keptDigit, nextChar, keptChar, next, kept, taken, filled, caseOf, caseLine}
+use Rattle.lines.specs.Lines.{maxDigits, noDigit, hexValue, hexDigit, byteOf, hexText, start, next, kept, taken, filled, caseOf, caseLine}
 use Rattle.lines.specs.declared.Line.{Line}
 use Rattle.lines.specs.declared.Line.the-variants as Line
 use Rattle.lines.specs.declared.Case.{Case}
 use Rattle.lines.specs.declared.Case.the-variants as Case
-use Rattle.lines.proofs.LineLaws.{is-digit, is-capital, ten-digit, letter-digit, one-more, first-kept, second-kept, digit-next, digit-kept, blank-next, tab-next, blank-kept, tab-kept, case-bytes}
+use Rattle.lines.proofs.LineLaws.{is-digit, is-capital, ten-digit, letter-digit, one-more, first-kept, second-kept, digit-next, digit-kept, blank-next, tab-next, low-kept, case-bytes}
 
 -- ---- a digit says its value
 
@@ -106,14 +106,12 @@ text-read-back bs out all some room =
 
 -- ---- blanks and tabs
 
-pub blank-passes : (l : Line) (out : List ℕ) → (next l 32 ≡ l) × (kept l 32 out ≡ out)
+-- neither changes the line or the bytes
+pub blanks-pass : (c : ℕ) → (c ≡ 32) ⊎ (c ≡ 9) → (l : Line) (out : List ℕ) → (next l c ≡ l) × (kept l c out ≡ out)
 unfolding next kept
-blank-passes (Line.Digits n high) out = (sym (blank-next n high 32 out refl), sym (blank-kept n high 32 out refl))
-blank-passes (Line.Comment n) out = (refl, refl)
-blank-passes Line.Bad out = (refl, refl)
-
-pub tab-passes : (l : Line) (out : List ℕ) → (next l 9 ≡ l) × (kept l 9 out ≡ out)
-unfolding next kept
-tab-passes (Line.Digits n high) out = (sym (tab-next n high 9 out (λ e. omega (arith, e)) refl), sym (tab-kept n high 9 out refl))
-tab-passes (Line.Comment n) out = (refl, refl)
-tab-passes Line.Bad out = (refl, refl)
+blanks-pass c is (Line.Digits n high) out = ⊎-elim
+    (λ (e : c ≡ 32). (sym (blank-next n high c out e), sym (low-kept n high c out 32 e refl)))
+    (λ (e : c ≡ 9). (sym (tab-next n high c out (λ f. omega (arith, e, f)) e), sym (low-kept n high c out 9 e refl)))
+    is
+blanks-pass c is (Line.Comment n) out = (refl, refl)
+blanks-pass c is Line.Bad out = (refl, refl)

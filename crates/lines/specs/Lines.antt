@@ -1,6 +1,6 @@
 -- A line of text that stands for bytes: two hex digits a byte, in either case. Blanks and tabs are passed over, `#` starts a comment, any other
 -- character spoils the line. Assumes nothing: these are definitions.
-use Prim.Native.Nat.{ℕ, zero, suc, _+_, _*_, _/_, _%_, _-_}
+use Prim.Native.Nat.{ℕ, _+_, _*_, _/_, _%_, _-_}
 use mathlib.Core.List.{List, [], _∷_}
 use lib.ListN.{set}
 use lib.Dec.{leb, eqb}

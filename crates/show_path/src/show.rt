@@ -12,10 +12,7 @@ pub(crate) fn named(word: &[u8], n: u64) {
 
 // A byte in two digits, with capital letters, which io::print_hex does not give.
 fn hex(b: u8) {
-    let digits = b"0123456789ABCDEF";
-    let high = wire::byte_at(digits, (b / 16) as usize);
-    let rest = wire::byte_at(digits, (b % 16) as usize);
-    io::write_all(1, &[high, rest]);
+    io::write_all(1, &[lines::hex_digit(b / 16), lines::hex_digit(b)]);
 }
 
 // Each byte in hex, with a space before it.

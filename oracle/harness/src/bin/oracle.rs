@@ -128,6 +128,21 @@ fn fail(f: &ForwardRequestFail) -> String {
         f.remaining_path_size.map(|x| x.to_string()).unwrap_or("-".into())
     )
 }
+/// what was read, an error, or a panic
+fn said<R>(read: impl FnOnce() -> Result<R, OracleError>, show: impl FnOnce(R) -> String) -> String {
+    match guard(read) {
+        Ok(Ok(r)) => format!("ok {}", show(r)),
+        Ok(Err(e)) => err(e),
+        Err(p) => format!("panic {}", p),
+    }
+}
+fn forward<R>(m: &MessageReply<Either<R, ForwardRequestFail>>, show: impl FnOnce(&R) -> String) -> String {
+    let data = match &m.data {
+        Either::Left(v) => format!("success {}", show(v)),
+        Either::Right(f) => format!("fail {}", fail(f)),
+    };
+    format!("{} {} {}", m.reply_service, st(&m.status), data)
+}
 fn walk(b: &[u8]) -> String {
     // spans as the offsets say; the data part of an item is its span less its header (4 or 6)
     let le = |i: usize| b.get(i).copied().unwrap_or(0) as usize + 256 * b.get(i + 1).copied().unwrap_or(0) as usize;
@@ -219,14 +234,12 @@ fn line(t: &[&str]) -> Result<String, String> {
         }
         "fopen" => {
             let b = raw(s(1)?);
-            match guard(|| ForwardOpenReply::decode(dec(&b))) {
-                Ok(Ok(r)) => format!(
-                    "ok {} {} {}",
-                    r.0.reply_service,
-                    st(&r.0.status),
-                    match &r.0.data {
-                        Either::Left(v) => format!(
-                            "success {} {} {} {} {} {} {} {}",
+            said(
+                || ForwardOpenReply::decode(dec(&b)),
+                |r| {
+                    forward(&r.0, |v| {
+                        format!(
+                            "{} {} {} {} {} {} {} {}",
                             v.o_t_connection_id,
                             v.t_o_connection_id,
                             v.connection_serial_number,
@@ -235,35 +248,22 @@ fn line(t: &[&str]) -> Result<String, String> {
                             v.o_t_api,
                             v.t_o_api,
                             flat(&v.app_data)
-                        ),
-                        Either::Right(f) => format!("fail {}", fail(f)),
-                    }
-                ),
-                Ok(Err(e)) => err(e),
-                Err(p) => format!("panic {}", p),
-            }
+                        )
+                    })
+                },
+            )
         }
         "fclose" => {
             let b = raw(s(1)?);
-            match guard(|| ForwardCloseReply::decode(dec(&b))) {
-                Ok(Ok(r)) => format!(
-                    "ok {} {} {}",
-                    r.0.reply_service,
-                    st(&r.0.status),
-                    match &r.0.data {
-                        Either::Left(v) => format!(
-                            "success {} {} {} {}",
-                            v.connection_serial_number,
-                            v.originator_vendor_id,
-                            v.originator_serial_number,
-                            flat(&v.app_data)
-                        ),
-                        Either::Right(f) => format!("fail {}", fail(f)),
-                    }
-                ),
-                Ok(Err(e)) => err(e),
-                Err(p) => format!("panic {}", p),
-            }
+            said(
+                || ForwardCloseReply::decode(dec(&b)),
+                |r| {
+                    forward(&r.0, |v| {
+                        let ids = (v.connection_serial_number, v.originator_vendor_id, v.originator_serial_number);
+                        format!("{} {} {} {}", ids.0, ids.1, ids.2, flat(&v.app_data))
+                    })
+                },
+            )
         }
         "routing" => format!(
             "ok {}",
@@ -272,19 +272,17 @@ fn line(t: &[&str]) -> Result<String, String> {
         "walk" => walk(&raw(s(1)?)),
         "env0" => {
             let b = raw(s(1)?);
-            match guard(|| CommonPacketIter::new(dec(&b)).and_then(|c| decode_unconnected_send::<_, MessageReply<Bytes>>(c))) {
-                Ok(Ok(m)) => format!("ok {} {} {}", m.reply_service, st(&m.status), flat(&m.data)),
-                Ok(Err(e)) => err(e),
-                Err(p) => format!("panic {}", p),
-            }
+            said(
+                || CommonPacketIter::new(dec(&b)).and_then(|c| decode_unconnected_send::<_, MessageReply<Bytes>>(c)),
+                |m| format!("{} {} {}", m.reply_service, st(&m.status), flat(&m.data)),
+            )
         }
         "env1" => {
             let b = raw(s(1)?);
-            match guard(|| CommonPacketIter::new(dec(&b)).and_then(|c| decode_connected_send::<_, MessageReply<Bytes>>(c))) {
-                Ok(Ok((k, m))) => format!("ok count {} {} {} {}", k, m.reply_service, st(&m.status), flat(&m.data)),
-                Ok(Err(e)) => err(e),
-                Err(p) => format!("panic {}", p),
-            }
+            said(
+                || CommonPacketIter::new(dec(&b)).and_then(|c| decode_connected_send::<_, MessageReply<Bytes>>(c)),
+                |(k, m)| format!("count {} {} {} {}", k, m.reply_service, st(&m.status), flat(&m.data)),
+            )
         }
         x => return Err(format!("command {}", x)),
     })

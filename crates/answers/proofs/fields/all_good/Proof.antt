@@ -16,14 +16,11 @@ abbrev μ-loop : tie.MeasureT-loop
 loop-holds : tie.Need-loop-holds Inv-loop μ-loop
 loop-holds c = search needs
 
-mul-part-of : tie.Need-mul-part-of Inv-loop μ-loop
-mul-part-of c = search needs
+mul-segment-at : tie.Need-mul-segment-at Inv-loop μ-loop
+mul-segment-at c = search needs
 
-part-of-requires : tie.Need-part-of-requires Inv-loop μ-loop
-part-of-requires c κs = search needs
-
-segment-requires : tie.Need-segment-requires Inv-loop μ-loop
-segment-requires c κs = search needs
+segment-at-requires : tie.Need-segment-at-requires Inv-loop μ-loop
+segment-at-requires c κs = search needs
 
 is-good-requires : tie.Need-is-good-requires Inv-loop μ-loop
 is-good-requires c κs = search needs
@@ -50,9 +47,8 @@ all-good-spec =
     Inv-loop
     μ-loop
     loop-holds
-    mul-part-of
-    part-of-requires
-    segment-requires
+    mul-segment-at
+    segment-at-requires
     is-good-requires
     returns
     add-i

@@ -24,11 +24,8 @@ mul-skip c = search needs
 skip-requires : tie.Need-skip-requires Inv-loop μ-loop
 skip-requires c κs = search needs
 
-part-of-requires : tie.Need-part-of-requires Inv-loop μ-loop
-part-of-requires c κs = search needs
-
-segment-requires : tie.Need-segment-requires Inv-loop μ-loop
-segment-requires c κs = search needs
+segment-at-requires : tie.Need-segment-at-requires Inv-loop μ-loop
+segment-at-requires c κs = search needs
 
 or-blank-requires : tie.Need-or-blank-requires Inv-loop μ-loop
 or-blank-requires c κs = search needs
@@ -60,8 +57,7 @@ path-spec =
     loop-holds
     mul-skip
     skip-requires
-    part-of-requires
-    segment-requires
+    segment-at-requires
     or-blank-requires
     mul-slots
     array-set-from-slots

@@ -6,6 +6,7 @@ use rseip_cip::codec::decode::message_reply::*;
 use rseip_cip::connection::*;
 use rseip_cip::MessageReply;
 use rseip_core::cip::CommonPacketIter;
+use std::fmt::Debug;
 
 fn header(b: &[u8]) -> String {
     match guard(|| {
@@ -20,25 +21,22 @@ fn header(b: &[u8]) -> String {
         Err(p) => format!("PANIC {}", p),
     }
 }
-fn fopen(b: &[u8]) -> String {
-    match guard(|| ForwardOpenReply::decode(dec(b))) {
-        Ok(Ok(r)) => match r.0.data {
-            Either::Left(s) => format!("Open ok svc {:02X} {:?}", r.0.reply_service, s),
-            Either::Right(f) => format!("Open fail svc {:02X} status {:?} {:?}", r.0.reply_service, r.0.status, f),
+type Forward<S> = MessageReply<Either<S, ForwardRequestFail>>;
+fn forward<S: Debug>(name: &str, read: impl FnOnce() -> Result<Forward<S>, OracleError>) -> String {
+    match guard(read) {
+        Ok(Ok(m)) => match m.data {
+            Either::Left(s) => format!("{name} ok svc {:02X} {:?}", m.reply_service, s),
+            Either::Right(f) => format!("{name} fail svc {:02X} status {:?} {:?}", m.reply_service, m.status, f),
         },
         Ok(Err(e)) => format!("Err {:?}", e),
         Err(p) => format!("PANIC {}", p),
     }
 }
+fn fopen(b: &[u8]) -> String {
+    forward("Open", || ForwardOpenReply::decode(dec(b)).map(|r| r.0))
+}
 fn fclose(b: &[u8]) -> String {
-    match guard(|| ForwardCloseReply::decode(dec(b))) {
-        Ok(Ok(r)) => match r.0.data {
-            Either::Left(s) => format!("Close ok svc {:02X} {:?}", r.0.reply_service, s),
-            Either::Right(f) => format!("Close fail svc {:02X} status {:?} {:?}", r.0.reply_service, r.0.status, f),
-        },
-        Ok(Err(e)) => format!("Err {:?}", e),
-        Err(p) => format!("PANIC {}", p),
-    }
+    forward("Close", || ForwardCloseReply::decode(dec(b)).map(|r| r.0))
 }
 
 pub fn run(t: &mut T) {
