@@ -1,5 +1,5 @@
 //! The judge: what every line must be answered where no Rust can say it. Written from document 01 (refusals, limits,
-//! segments) and from the page of the line protocol; where those two leave a point open, the comment names the entry
+//! segments) and from docs/ANSWERS.md; where those two leave a point open, the comment names the entry
 //! of docs/DECISIONS.md. It shares no code with the cases, the crate's side or the program that is asked.
 //! This file has the lines and their fields; each group of operations has a file below it.
 

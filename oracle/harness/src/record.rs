@@ -25,7 +25,7 @@ const HEAD_1: &str = ": the answers of the Rust crate rseip-cip 0.2.1.
 
 const HEAD_2: &str = ": ours. No Rust gave these answers.
 # Made by the same command: oracle/harness/src/judge.rs answered each, which is written from document 01 and from
-# the protocol's page, apart from the program that is asked. Refusals and their order, the readers, symbols that no
+# docs/ANSWERS.md, apart from the program that is asked. Refusals and their order, the readers, symbols that no
 # Rust String holds, and lines that are no case.
 ";
 

@@ -6,7 +6,7 @@ use super::{Case, Sink, Truth};
 use crate::case::*;
 use crate::rng::Rng;
 
-/// Operations that the protocol's page gives to nobody, so a later landing keeps these cases.
+/// Operations that are kept for nothing, so that these cases stay when others land.
 pub const NO_OPERATION: [u8; 12] = [0x00, 0x08, 0x09, 0x0F, 0x16, 0x1F, 0x28, 0x2F, 0x3F, 0x7F, 0x80, 0xFF];
 
 pub fn judged(to: &mut Sink, line: Vec<u8>) {

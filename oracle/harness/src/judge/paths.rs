@@ -5,7 +5,7 @@ use super::{answer, low_first, writer, Fields, Judged};
 const MOST_SEGMENTS: usize = 127;
 const LONGEST_SYMBOL: u32 = 255;
 const LONGEST_LINK: u32 = 254;
-/// How many segments a LIST of the line protocol may have. More than `MOST_SEGMENTS`, so that the limit can be asked.
+/// How many segments a LIST of a line may have. More than `MOST_SEGMENTS`, so that the limit can be asked.
 const MOST_IN_A_LINE: u16 = 400;
 
 #[derive(Clone, Copy)]
