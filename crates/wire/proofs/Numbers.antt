@@ -11,6 +11,7 @@ use native.Mathlib.Omega.{arith}
 use lib.ListN.{length, getD, take, drop, List·getD-eq-default, drop-of-length-le}
 use lib.Seq.{getD-drop, drop-drop}
 use Rattle.wire.specs.Numbers.{valueOf, lowFirst, Bytes}
+use Rattle.wire.specs.Parts.{part}
 
 -- ---- a number at a place
 
@@ -83,6 +84,19 @@ value-small (suc k) s b =
 
 pub bytes-drop : (s : List ℕ) (at : ℕ) → Bytes s → Bytes (drop at s)
 bytes-drop s at b k = rw (getD-drop at s k 0) (b (at + k))
+
+bytes-take : (n : ℕ) (l : List ℕ) → Bytes l → Bytes (take n l)
+bytes-take zero l b k = omega arith
+bytes-take (suc n) [] b k = omega arith
+bytes-take (suc n) (x ∷ l) b zero = b 0
+bytes-take (suc n) (x ∷ l) b (suc k) = bytes-take n l (λ i. b (suc i)) k
+
+pub bytes-part : (s : List ℕ) (at len : ℕ) → Bytes s → Bytes (part s at len)
+bytes-part s at len b = bytes-take len (drop at s) (bytes-drop s at b)
+
+-- bytes, as few as they are, hold 0
+pub some-power : (k : ℕ) → 0 < 256 ^ k
+some-power k = omega (arith, value-small k [] (λ i. omega arith))
 
 -- ---- one of two orders holds
 pub below-or : (a b : ℕ) → (a < b) ⊎ (b ≤ a)

@@ -6,7 +6,7 @@ use mathlib.Core.Bool.{Bool, true, false, not}
 use native.Mathlib.Omega.{arith}
 use lib.Dec.{eqb}
 use borrow.Author.Tests.{ltb-false, lt-ltb, le-ltb, eq-eqb, ne-eqb, eqb-true, not-false}
-use Rattle.wire.specs.Answers.{Answer, done, refused, Rule, under, over, other, breaks, numberOf, judged, Keeps, KeepsAll}
+use Rattle.wire.specs.Answers.{Answer, done, refused, andThen, Rule, under, over, other, breaks, numberOf, judged, Keeps, KeepsAll}
 
 pub never : {A B : Type 0} {x : A} {k : ℕ} → refused k ≡ done x → B
 never h = absurd (let z : _≡_ {A = ℕ} 0 1 = cc in omega arith)
@@ -91,3 +91,24 @@ same-refusal (r ∷ rs) x y k h = go (breaks r) refl (λ (g : judged rs (done x)
         let e : numberOf r ≡ k = cc in
         bad rs y r p ∙ ap refused e
     go false p f = next rs y r p ∙ f (sym (next rs (done x) r p) ∙ h)
+
+-- ---- one question after another
+module _ {A B : Type 0} (x : Answer A) (f : A → Answer B) where
+  pub then-stops : (k : ℕ) → x ≡ refused k → refused k ≡ andThen x f
+  then-stops k h = rw h
+
+  pub then-goes : (v : A) (z : Answer B) → x ≡ done v → z ≡ f v → z ≡ andThen x f
+  then-goes v z h e = e ∙ rw h
+
+  pub then-done : (v : A) → x ≡ done v → andThen x f ≡ f v
+  then-done v h = rw h
+
+-- backwards: an answer that is no refusal had one before it
+pub record Went {A B : Type 0} (x : Answer A) (f : A → Answer B) (y : B) : Type 0 where
+  pub found : A
+  pub is : x ≡ done found
+  pub then : f found ≡ done y
+
+pub then-were : {A B : Type 0} (x : Answer A) (f : A → Answer B) (y : B) → andThen x f ≡ done y → Went x f y
+then-were (done v) f y h = record { found = v; is = refl; then = h }
+then-were (refused k) f y h = never h

@@ -6,7 +6,7 @@ use native.Mathlib.Nat.{add-zero, zero-add, add-suc, suc-add, le-add-right, le-o
 use native.Mathlib.Numerals.{add-one}
 use native.Mathlib.Omega.{arith}
 use lib.ListN.{length, take, drop, set, getD, length-set, length-drop, take-append-drop, drop-of-length-le}
-use lib.Seq.{sets, take-set-le, drop-set-add, sets-eq, length-sets, length-take-le, take-suc, take-all, set-comm, set-out}
+use lib.Seq.{sets, take-set-le, drop-set-add, sets-eq, length-sets, length-take-le, take-suc, take-all, set-comm, set-out, take-append-seam, drop-append-seam, drop-drop}
 use Rattle.wire.specs.Numbers.{lowFirst}
 use Rattle.wire.specs.Parts.{part, overlay}
 
@@ -56,6 +56,20 @@ module _ {A : Type 0} where
       set-before (set l n x) a (suc n) i v (omega arith)
       ∙ ap (λ (d : List A). sets d (suc n) a) (set-comm l n i x v (λ e. omega arith))
 
+  -- so may a run before a run
+  pub sets-before : (l a b : List A) (n i : ℕ) → i + length b ≤ n → sets (sets l n a) i b ≡ sets (sets l i b) n a
+  sets-before l a [] n i h = refl
+  sets-before l a (x ∷ b) n i h =
+      ap (λ (d : List A). sets d (suc i) b) (set-before l a n i x (omega arith))
+      ∙ sets-before (set l i x) a b n (suc i) (omega arith)
+
+  -- what stands before a run may be stored after it
+  pub sets-ahead : (old front rest : List A) (at : ℕ) → at ≡ length front → sets (sets old at rest) 0 front ≡ sets old 0 (front ++ rest)
+  sets-ahead old front rest at e =
+      sets-before old rest front at 0 (omega arith)
+      ∙ ap (λ (k : ℕ). sets (sets old 0 front) k rest) (e ∙ sym (zero-add (length front)))
+      ∙ sets-append old front rest 0
+
   -- ---- lending: a callee that is lent `&mut l[n..]` sees `take (length l - n) (drop n l)`
 
   -- the part is all from n on
@@ -103,6 +117,23 @@ pub part-rest : (s : List ℕ) (start len n : ℕ) → n ≡ length s → n - st
 part-rest s start len n e h =
     take-all (n - start) (drop start s) (simp length-drop (omega arith))
     ∙ sym (take-all len (drop start s) (simp length-drop (omega arith)))
+
+-- what stands from a place on, past the first part of it
+pub past-part : (s a b : List ℕ) (at : ℕ) → drop at s ≡ a ++ b → drop (at + length a) s ≡ b
+past-part s a b at e = sym (drop-drop (length a) at s) ∙ ap (drop (length a)) e ∙ drop-append-seam a b
+
+pub part-front : (s a b : List ℕ) (at : ℕ) → drop at s ≡ a ++ b → part s at (length a) ≡ a
+part-front s a b at e = ap (take (length a)) e ∙ take-append-seam a b
+
+-- a list that stands at the end
+pub part-end : (s a : List ℕ) (at : ℕ) → drop at s ≡ a → part s at (length a) ≡ a
+part-end s a at e = ap (take (length a)) e ∙ take-all (length a) a (omega arith)
+
+pub part-split : (s : List ℕ) (at len : ℕ) → drop at s ≡ part s at len ++ drop (at + len) s
+part-split s at len = sym (take-append-drop len (drop at s)) ∙ ap (λ (l : List ℕ). part s at len ++ l) (drop-drop len at s)
+
+pub part-last : (s : List ℕ) (at len : ℕ) → length s ≤ at + len → part s at len ≡ drop at s
+part-last s at len h = take-all len (drop at s) (simp length-drop (omega arith))
 
 pub ruleset part-laws = (part-past, part-rest, part-span)
 

@@ -26,6 +26,11 @@ abbrev pub paperCount : Counted → Answer ℕ
 paperCount (Count n) = done n
 paperCount (NotCounted e) = refused (number e)
 
+-- what follows is asked only where there was no refusal
+abbrev pub andThen : {A B : Type 0} → Answer A → (A → Answer B) → Answer B
+andThen (done x) f = f x
+andThen (refused k) f = refused k
+
 -- ---- rules
 
 -- `under x a e` refuses with e where x is under a, `over x a e` where x is over a, `other x a e` where x is not a

@@ -4,3 +4,4 @@ pub mod Parts
 pub mod Choice
 pub mod Answers
 pub mod Folds
+pub mod Records
