@@ -3,7 +3,6 @@ use crate::show;
 use epath::PortSegment;
 use epath::Segment;
 use epath::SymbolSegment;
-use wire::Wrote;
 
 // What an output holds before it is lent, so that what is not written shows.
 pub const BLANK: u8 = 0xA5;
@@ -57,68 +56,6 @@ pub(crate) fn both(x: Segment, pool: &[u8]) {
     answers(x, pool);
 }
 
-// A part of the pool, told by its place.
-pub(crate) fn place(x: Segment, pool: &[u8]) {
-    show::words(b"size ");
-    show::placed(x);
-    show::named(b" in a pool of ", pool.len() as u64);
-    answers(x, pool);
-}
-
-// The whole output as it is afterwards.
-pub(crate) fn output(out: &[u8]) {
-    show::words(b", output");
-    show::whole(out);
-    show::end();
-}
-
-fn into(x: Segment, pool: &[u8], out: &mut [u8]) {
-    show::words(b"write ");
-    show::segment(x, pool);
-    show::named(b" into ", out.len() as u64);
-    show::colon();
-    show::size(epath::write_segment(x, pool, out));
-    output(out);
-}
-
-// A segment into an output of n bytes.
-pub(crate) fn room(x: Segment, pool: &[u8], n: usize) {
-    let mut out = [BLANK; 16];
-    if n <= 16 {
-        into(x, pool, &mut out[0..n]);
-    }
-}
-
-// Where the next segment goes, behind one of n bytes at a place.
-fn after(at: usize, n: usize, end: usize) -> usize {
-    if end < at {
-        return at;
-    }
-    if end - at < n {
-        return at;
-    }
-    at + n
-}
-
-// A segment into the rest of an output from a place on; where the next one goes.
-pub(crate) fn rest(x: Segment, pool: &[u8], out: &mut [u8], at: usize) -> usize {
-    let end = out.len();
-    if end < at {
-        return at;
-    }
-    show::words(b"write ");
-    show::segment(x, pool);
-    show::named(b" into the rest from ", at as u64);
-    show::colon();
-    let answer = epath::write_segment(x, pool, &mut out[at..]);
-    show::size(answer);
-    output(out);
-    match answer {
-        Wrote::Refused(_) => at,
-        Wrote::Size(n) => after(at, n, end),
-    }
-}
-
 // ---- the reader
 
 pub(crate) fn read(s: &[u8]) {
@@ -126,18 +63,5 @@ pub(crate) fn read(s: &[u8]) {
     show::whole(s);
     show::colon();
     show::found(epath::read_segment(s));
-    show::end();
-}
-
-// What stands at a place of s.
-pub(crate) fn read_from(s: &[u8], at: usize) {
-    if s.len() < at {
-        return;
-    }
-    show::named(b"read from ", at as u64);
-    show::words(b" of");
-    show::whole(s);
-    show::colon();
-    show::found(epath::read_segment(&s[at..]));
     show::end();
 }

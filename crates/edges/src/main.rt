@@ -1,4 +1,4 @@
-// Runs document 01's cards for paths and the edges of every limit, and prints each with its answer.
+// Runs document 01's cards for paths, and the functions that the program answers has no operation for, and prints each with its answer.
 mod show; // show.rt: words, numbers, bytes, segments and answers on standard output
 mod cases; // cases.rt: one case of each kind
 mod lists; // lists.rt: the same for lists of segments
@@ -13,33 +13,6 @@ fn fill(pool: &mut [u8]) {
     for i in 0..pool.len() {
         wire::put_byte(pool, i, 65 + (i % 26) as u8);
     }
-}
-
-fn write_all(pool: &[u8]) {
-    writes::cards(pool);
-    writes::links(pool);
-    writes::symbols(pool);
-    writes::ports();
-    writes::values();
-    writes::elements();
-    writes::pools(pool);
-    writes::link_pools(pool);
-    writes::rooms(pool);
-    writes::path_rooms();
-    writes::orders(pool);
-    writes::rests();
-}
-
-fn read_all() {
-    reads::kinds();
-    reads::ports();
-    reads::short();
-    reads::forms();
-    reads::limits();
-    reads::codes();
-    reads::paths();
-    reads::refusals();
-    reads::counts();
 }
 
 fn is_port(x: Segment) {
@@ -90,8 +63,8 @@ fn main() {
     show::words(b"Paths: what is asked, and the answer; a refusal by document 01's number\n");
     let mut pool = [0u8; 300];
     fill(&mut pool);
-    write_all(&pool);
-    read_all();
+    writes::cards(&pool);
+    reads::forms();
     small();
     refusals();
 }

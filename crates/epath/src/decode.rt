@@ -6,7 +6,7 @@ use epath_encode::PortSegment;
 use epath_encode::Segment;
 use epath_encode::Slot;
 use epath_encode::SymbolSegment;
-use epath_encode::blank_path;
+use epath_lists::blank_path;
 use wire::Counted;
 use wire::Refusal;
 use wire::byte_at;

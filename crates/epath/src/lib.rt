@@ -1,4 +1,4 @@
-// CIP paths, whole: the strict reader here, and segments, their sizes and the writer handed on from epath_encode.
+// CIP paths, whole: the strict reader here, and segments, their sizes and the writer handed on from epath_encode and epath_lists.
 mod decode; // decode.rt: the strict reader
 
 pub use decode::check_path;
@@ -13,13 +13,13 @@ pub use epath_encode::PortSegment;
 pub use epath_encode::Segment;
 pub use epath_encode::Slot;
 pub use epath_encode::SymbolSegment;
-pub use epath_encode::blank_path;
-pub use epath_encode::default_port;
-pub use epath_encode::is_port;
 pub use epath_encode::path_size;
 pub use epath_encode::segment_size;
 pub use epath_encode::write_path;
 pub use epath_encode::write_segment;
+pub use epath_lists::blank_path;
+pub use epath_lists::default_port;
+pub use epath_lists::is_port;
 use wire::Refusal;
 
 // The segment at the front, and how many bytes it has; or why there is none.

@@ -3,26 +3,10 @@
 use mathlib.Core.Path.{refl}
 use Rattle.exact.specs.Exact.{Exact, exact, says, same}
 use Rattle.wire.proofs.Answers.{size-one}
-use Rattle.epath_encode.proofs.blank_path
-use Rattle.epath_encode.proofs.default_port
-use Rattle.epath_encode.proofs.is_port
 use Rattle.epath_encode.proofs.encode.segment_size
 use Rattle.epath_encode.proofs.encode.path_size
 use Rattle.epath_encode.proofs.encode.write_segment
 use Rattle.epath_encode.proofs.encode.write_path
-
--- ---- values
-
-pub blank-path-exact : Exact blank_path.ended (λ _. blank_path.clauses)
-blank-path-exact = exact (λ w κs a. (tt, λ m. tt)) (λ w κs a g z e. search says) (λ t. (same (t .said) (t .said′), refl))
-
-pub default-port-exact : Exact default_port.ended (λ _. default_port.clauses)
-default-port-exact = exact (λ w κs a. (tt, λ m. tt)) (λ w κs a g z e. search says) (λ t. (same (t .said) (t .said′), refl))
-
-pub is-port-exact : Exact is_port.ended (λ _. is_port.clauses)
-is-port-exact = exact (λ w κs a. (tt, λ m. tt)) (λ w κs a g z e. search says) (λ t. (same (t .said) (t .said′), refl))
-
--- ---- sizes and writers
 
 pub segment-size-exact : Exact segment_size.ended (λ _. segment_size.clauses)
 segment-size-exact = exact (λ w κs a. (tt, λ m. tt)) (λ w κs a g z e. search says) (λ t. (size-one (t .z) (t .z′) (same (t .said) (t .said′)), refl))

@@ -5,9 +5,6 @@ pub use encode::path_size;
 pub use encode::segment_size;
 pub use encode::write_path;
 pub use encode::write_segment;
-ghost use mathlib.Core.Path.{_≡_};
-ghost use mathlib.Core.List.{[]};
-ghost use Rattle.epath_encode.specs.Lists.{pathOf, backplane, isPort};
 
 // ---- limits and codes, each beside its twin in specs/Limits.antt; the reader, epath, uses them too
 
@@ -80,41 +77,4 @@ pub struct Slot {
 pub struct Path {
     pub slots: [Slot; MAX_SEGMENTS],
     pub count: usize,
-}
-
-// The list that holds nothing.
-pub fn blank_path() -> Path
-    ensures { λ r. ⌜ r ≡ pathOf [] ⌝ }
-{
-    let blank = Slot {
-        segment: Segment::Class(0),
-    };
-    Path {
-        slots: [blank; MAX_SEGMENTS],
-        count: 0,
-    }
-}
-
-// The backplane's slot 0: an empty link, which is written as link 0 and lies in every pool.
-pub fn default_port() -> PortSegment
-    ensures { λ r. ⌜ r ≡ backplane ⌝ }
-{
-    PortSegment {
-        port: 1,
-        start: 0,
-        len: 0,
-    }
-}
-
-pub fn is_port(s: Segment) -> bool
-    ensures { λ r. ⌜ r ≡ isPort s ⌝ }
-{
-    match s {
-        Segment::Port(_) => true,
-        Segment::Symbol(_) => false,
-        Segment::Class(_) => false,
-        Segment::Instance(_) => false,
-        Segment::Attribute(_) => false,
-        Segment::Element(_) => false,
-    }
 }
