@@ -1,0 +1,4 @@
+pub mod FieldLaws
+pub mod Words
+pub mod Lengths
+pub mod Exact
