@@ -1,0 +1,158 @@
+-- The writers' stores, put together: fields, path, data. Assumes nothing.
+use Prim.Native.Nat.{ℕ, _+_, _/_, _*_, _^_, _≤_, _<_}
+use mathlib.Core.Path.{_≡_, refl, sym, ap, _∙_}
+use mathlib.Core.List.{List, [], _∷_, _++_, append-assoc}
+use mathlib.Core.Bool.{Bool, true, false, true≢false}
+use native.Mathlib.Omega.{arith}
+use lib.ListN.{set, replicate, length-append}
+use lib.Seq.{sets}
+use mir.Val.{Fits}
+use mir.Syntax.{w16}
+use Rattle.wire.specs.Numbers.{lowFirst}
+use Rattle.wire.specs.Answers.{done}
+use Rattle.wire.specs.Records.{Field, byte, number as field, bytesOf, laid}
+use Rattle.wire.specs.declared.Refusal.{Refusal}
+use Rattle.wire.proofs.Rules.{never}
+use Rattle.wire.proofs.Stores.{sets-append, sets-ahead}
+use Rattle.wire.proofs.Folds.{joined-append}
+use Rattle.wire.proofs.Records.{laid-length, laid-more}
+use Rattle.epath_encode.specs.Segments.{encode}
+use Rattle.epath_encode.specs.Limits.{maxSegments}
+use Rattle.epath_encode.specs.Lists.{blank, pathOf, backplane, segsOf}
+use Rattle.epath_encode.specs.declared.Segment.the-variants.{Class, Instance, Port}
+use Rattle.epath_encode.specs.declared.PortSegment.{PortSegment}
+use Rattle.epath_encode.specs.declared.Path.{Path}
+use Rattle.connection.specs.Limits.{sizeLimit}
+use Rattle.connection_words.proofs.FieldLaws.{flags-most}
+use Rattle.connection_words.specs.Fields.{unit, flagsOf, wordOf, parameterWord, paperWord, classTrigger}
+use Rattle.connection_words.specs.Requests.{triad, parameterWidth, direction, openIds, openHead, openRest, openBytes, closeFields, closeBytes}
+use Rattle.connection.specs.declared.ConnectionParameters.{ConnectionParameters}
+use Rattle.connection.specs.declared.OpenOptions.{OpenOptions}
+use Rattle.connection.specs.declared.ForwardCloseRequest.{ForwardCloseRequest}
+use Rattle.connection_words.specs.declared.Word.{Word}
+use Rattle.connection_words.specs.declared.Word.the-variants.{Bits, Refused as NoWord}
+use Rattle.route.specs.Routes.{Ready, Routed}
+use Rattle.forward_encode.specs.Sizes.{defaultSlots, openBase}
+use Rattle.forward_encode.proofs.SizeLaws.{word-small-size, open-front}
+
+-- ---- the default path
+pub default-path : (q : PortSegment) → q ≡ backplane
+    → record {
+      slots = set (set (set (replicate maxSegments blank) 0 (record { segment = Port q })) 1 (record { segment = Class 2 })) 2 (record { segment = Instance 1 });
+      count = 3;
+    }
+    ≡ pathOf defaultSlots
+default-path q e = rw e
+
+-- ---- what names a connection
+module _ (old : List ℕ) (at : ℕ) where
+  pub triad-put : (serial vendor originator : ℕ) (a b c : List ℕ) → a ≡ sets old at (lowFirst 2 serial) → b ≡ sets a (at + 2) (lowFirst 2 vendor)
+      → c ≡ sets b (at + 4) (lowFirst 4 originator) → c ≡ sets old at (laid (triad serial vendor originator))
+  triad-put serial vendor originator a b c e f g =
+      let x : a ≡ sets old at (laid (field 2 serial ∷ [])) = laid-more [] (field 2 serial) old old a at at refl (omega arith) e in
+      let y : b ≡ sets old at (laid (field 2 serial ∷ field 2 vendor ∷ [])) = laid-more (field 2 serial ∷ []) (field 2 vendor) old a b at (at + 2) x (omega arith) f in
+      laid-more (field 2 serial ∷ field 2 vendor ∷ []) (field 4 originator) old b c at (at + 4) y (omega arith) g
+
+-- ---- Forward Close
+pub close-fields : (c : ForwardCloseRequest) (w : ℕ) (old a0 a1 a2 : List ℕ) → a0 ≡ sets old 0 (c .«priority_time_ticks» ∷ c .«timeout_ticks» ∷ [])
+    → a1 ≡ sets a0 2 (laid (triad (c .«connection_serial_number») (c .«originator_vendor_id») (c .«originator_serial_number»))) → a2 ≡ sets a1 10 (w ∷ 0 ∷ [])
+    → a2 ≡ sets old 0 (laid (closeFields c w))
+close-fields c w old a0 a1 a2 e0 e1 e2 = e2 ∙ rw (e1, e0)
+
+module _ (pool : List ℕ) (p : Path) (old : List ℕ) (n : ℕ) (a : List ℕ) (t : Routed pool p 12 old n a) where
+  pub close-put : (c : ForwardCloseRequest) (b : List ℕ) → b ≡ sets a 0 (laid (closeFields c (n / 2))) → b ≡ sets old 0 (closeBytes c (encode (segsOf pool p)))
+  unfolding closeBytes
+  close-put c b e =
+      e
+      ∙ ap (λ (l : List ℕ). sets l 0 (laid (closeFields c (n / 2)))) (t .stored)
+      ∙ sets-ahead old (laid (closeFields c (n / 2))) (encode (segsOf pool p)) 12 refl
+      ∙ rw (t .size)
+
+-- ---- Forward Open
+-- the last store comes first: what it leaves is known, and says what the one before it left
+pub open-ids : (priority ticks x y : ℕ) (old a0 a1 a2 : List ℕ) → a2 ≡ sets a1 6 (lowFirst 4 y) → a1 ≡ sets a0 2 (lowFirst 4 x)
+    → a0 ≡ sets old 0 (priority ∷ ticks ∷ []) → a2 ≡ sets old 0 (laid (openIds priority ticks x y))
+open-ids priority ticks x y old a0 a1 a2 e2 e1 e0 = e2 ∙ rw (e1, e0)
+
+pub open-head : (o : OpenOptions) (old a0 a1 a2 : List ℕ)
+    → a0 ≡ sets old 0 (laid (openIds (o .«priority_tick_time») (o .«timeout_ticks») (o .«o_t_connection_id») (o .«t_o_connection_id»)))
+    → a1 ≡ sets a0 10 (laid (triad (o .«connection_serial_number») (o .«vendor_id») (o .«originator_serial_number»)))
+    → a2 ≡ sets a1 18 (o .«timeout_multiplier» ∷ 0 ∷ 0 ∷ 0 ∷ []) → a2 ≡ sets old 0 (laid (openHead o))
+open-head o old a0 a1 a2 e0 e1 e2 = e2 ∙ rw (e1, e0)
+
+-- a word of parameters
+module _ (large : Bool) (q : ConnectionParameters) (good : parameterWord large q ≡ done (wordOf large q)) (r : Word) (is : paperWord r ≡ parameterWord large q) where
+  pub word-never : (e : Refusal) → r ≡ NoWord e → (old : List ℕ) (at : ℕ) → old ≡ sets old at (lowFirst (parameterWidth large) (wordOf large q))
+  word-never e h old at = never (sym (ap paperWord h) ∙ is ∙ good)
+
+  module _ (w : ℕ) (h : r ≡ Bits w) where
+    value : w ≡ wordOf large q
+    value = let d : done w ≡ done (wordOf large q) = sym (ap paperWord h) ∙ is ∙ good in cc
+
+    pub word-large : large ≡ true → (old new : List ℕ) (at : ℕ) → new ≡ sets old at (lowFirst 4 w) → new ≡ sets old at (lowFirst (parameterWidth large) (wordOf large q))
+    word-large l old new at e = e ∙ rw (value, l)
+
+    pub word-small : large ≡ false → (old new : List ℕ) (at : ℕ) → new ≡ sets old at (lowFirst 2 w) → new ≡ sets old at (lowFirst (parameterWidth large) (wordOf large q))
+    word-small l old new at e = e ∙ rw (value, l)
+
+    pub word-cast : large ≡ false → Fits w16 w
+    unfolding wordOf
+    word-cast l =
+        let k : q .«connection_size» ≤ sizeLimit large = word-small-size large q (wordOf large q) good in
+        record { fits = below large l k (value ∙ refl) }
+      where
+        below : (large : Bool) → large ≡ false → q .«connection_size» ≤ sizeLimit large → w ≡ q .«connection_size» + unit large * flagsOf q → w < 2 ^ 16
+        below false e k v = omega (arith, flags-most q)
+        below true e k v = absurd (true≢false e)
+
+-- a direction, and the second 14 or 18 bytes
+pub direction-put : (large : Bool) (rpi : ℕ) (q : ConnectionParameters) (at : ℕ) (old a b : List ℕ) → a ≡ sets old at (lowFirst 4 rpi)
+    → b ≡ sets a (at + 4) (lowFirst (parameterWidth large) (wordOf large q)) → b ≡ sets old at (laid (direction large rpi q))
+direction-put large rpi q at old a b e f =
+    let x : a ≡ sets old at (laid (field 4 rpi ∷ [])) = laid-more [] (field 4 rpi) old old a at at refl (omega arith) e in
+    laid-more (field 4 rpi ∷ []) (field (parameterWidth large) (wordOf large q)) old a b at (at + 4) x (omega arith) f
+
+module _ (o : OpenOptions) (w k b : ℕ) (old a0 a1 a2 : List ℕ) (is : k ≡ parameterWidth (o .«large_open»)) (trigger : b ≡ classTrigger o)
+    (e0 : a0 ≡ sets old 22 (laid (direction (o .«large_open») (o .«o_t_rpi») (o .«o_t_params»))))
+    (e1 : a1 ≡ sets a0 (26 + k) (laid (direction (o .«large_open») (o .«t_o_rpi») (o .«t_o_params»))))
+    (e2 : a2 ≡ sets a1 (30 + k + k) (b ∷ w ∷ [])) where
+  pub open-rest : a2 ≡ sets old 22 (laid (openRest o w))
+  open-rest =
+      let l : Bool = o .«large_open» in
+      let x : List Field = direction l (o .«o_t_rpi») (o .«o_t_params») in
+      let y : List Field = direction l (o .«t_o_rpi») (o .«t_o_params») in
+      let z : List Field = byte (classTrigger o) ∷ byte w ∷ [] in
+      let f1 : a1 ≡ sets old 22 (laid x ++ laid y) =
+      e1 ∙ ap (λ (t : List ℕ). sets t (26 + k) (laid y)) e0 ∙ ap (λ (i : ℕ). sets (sets old 22 (laid x)) i (laid y)) (omega (arith, laid-length x)) ∙ sets-append old (laid x) (laid y) 22 in
+      e2
+      ∙ ap (λ (i : ℕ). sets a1 (30 + k + k) (i ∷ w ∷ [])) trigger
+      ∙ ap (λ (t : List ℕ). sets t (30 + k + k) (laid z)) f1
+      ∙ ap (λ (i : ℕ). sets (sets old 22 (laid x ++ laid y)) i (laid z)) (omega (arith, laid-length x, laid-length y, length-append (laid x) (laid y)))
+      ∙ sets-append old (laid x ++ laid y) (laid z) 22
+      ∙ ap (λ (t : List ℕ). sets old 22 t) (append-assoc (laid x) (laid y) (laid z))
+      ∙ ap (λ (t : List ℕ). sets old 22 (laid x ++ t)) (sym (joined-append bytesOf y z))
+      ∙ ap (λ (t : List ℕ). sets old 22 t) (sym (joined-append bytesOf x (y ++ z)))
+
+-- before a path, all together
+module _ (pool : List ℕ) (p : Path) (o : OpenOptions) (base : ℕ) (is : base ≡ openBase (o .«large_open»)) where
+  pub open-at : (out : List ℕ) → Ready pool p (openBase (o .«large_open»)) out → Ready pool p base out
+  open-at out r = rw is r
+
+  pub open-put : (old : List ℕ) (n : ℕ) (a b c : List ℕ) → Routed pool p base old n a → b ≡ sets a 0 (laid (openHead o)) → c ≡ sets b 22 (laid (openRest o (n / 2)))
+      → c ≡ sets old 0 (openBytes o (encode (segsOf pool p)))
+  unfolding openBytes
+  open-put old n a b c t e f =
+      let path : List ℕ = encode (segsOf pool p) in
+      let head : List ℕ = laid (openHead o) in
+      let rest : List ℕ = laid (openRest o (n / 2)) in
+      f
+      ∙ ap (λ (l : List ℕ). sets l 22 rest) e
+      ∙ sets-append a head rest 0
+      ∙ ap (λ (l : List ℕ). sets l 0 (head ++ rest)) (t .stored)
+      ∙ sets-ahead old (head ++ rest) path base (is ∙ sym (open-front o (n / 2)))
+      ∙ ap (λ (l : List ℕ). sets old 0 l) (append-assoc head rest path)
+      ∙ rw (t .size)
+
+pub ruleset close-laws = (close-fields, close-put)
+
+pub ruleset open-laws = (open-ids, open-head, word-never, word-large, word-small, word-cast, direction-put, open-rest, open-at, open-put)

@@ -1,0 +1,3 @@
+pub mod SizeLaws
+pub mod WriteLaws
+pub mod Exact

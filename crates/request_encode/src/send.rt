@@ -1,0 +1,105 @@
+// Unconnected Send. Beside it in rseip-cip: `UnconnectedSend` in src/codec/encode.rs and src/service/request.rs.
+use crate::record::record_size;
+use connection::UnconnectedSend;
+use epath_encode::Path;
+use epath_encode::write_path;
+use route::route_size;
+use wire::Refusal;
+use wire::Wrote;
+use wire::put_byte;
+use wire::put_bytes;
+use wire::put_u16;
+ghost use mathlib.Core.Path.{_≡_};
+ghost use Prim.Native.Nat.{_+_, _%_, _≤_};
+ghost use lib.ListN.{length};
+ghost use lib.Seq.{sets};
+ghost use Rattle.wire.specs.Numbers.{lowFirst};
+ghost use Rattle.wire.specs.Answers.{paperSize, withRoom, written};
+ghost use Rattle.wire.specs.Records.{laid};
+ghost use Rattle.epath_encode.specs.Segments.{encode};
+ghost use Rattle.epath_encode.specs.Lists.{segsOf};
+ghost use Rattle.connection.specs.Limits.{maxRecord};
+ghost use Rattle.connection_words.specs.Requests.{sendHead, sendRest, sendBytes};
+ghost use Rattle.request_encode.specs.Sizes.{sendSize};
+ghost use Rattle.route.specs.Routes.{Ready};
+
+// How many bytes an Unconnected Send takes.
+pub fn unconnected_send_size(message: &[u8], p: Path, pool: &[u8]) -> Wrote
+    ensures { λ r. ⌜ paperSize r ≡ sendSize (now (pool .entry)) p (length (now (message .entry))) ⌝ }
+{
+    match route_size(p, pool) {
+        Wrote::Refused(e) => Wrote::Refused(e),
+        Wrote::Size(n) => {
+            let m = message.len();
+            record_size(6 + n + m % 2, m)
+        }
+    }
+}
+
+// Stores a zero where n is odd.
+fn put_pad(out: &mut [u8], at: usize, n: usize)
+    ensures { λ _. ⌜ now (out .exit) ≡ sets (now (out .entry)) at (lowFirst (n % 2) 0) ⌝ }
+{
+    if n % 2 == 0 {
+        return;
+    }
+    put_byte(out, at, 0);
+}
+
+// What stands before a message of m bytes.
+fn put_send_head(u: UnconnectedSend, m: usize, out: &mut [u8])
+    requires { ⌜ m ≤ maxRecord ⌝ }
+    ensures { λ _. ⌜ now (out .exit) ≡ sets (now (out .entry)) 0 (laid (sendHead u m)) ⌝ }
+{
+    put_bytes(out, 0, &[u.priority_ticks, u.timeout_ticks]);
+    put_u16(out, 2, m as u16);
+}
+
+// What stands between the message and the route.
+fn put_send_rest(m: usize, words: u8, out: &mut [u8])
+    requires { ⌜ m ≤ maxRecord ⌝ }
+    ensures { λ _. ⌜ now (out .exit) ≡ sets (now (out .entry)) (4 + m) (laid (sendRest m words)) ⌝ }
+{
+    put_pad(out, 4 + m, m);
+    put_bytes(out, 4 + m + m % 2, &[words, 0]);
+}
+
+// An Unconnected Send that was judged.
+fn put_send(u: UnconnectedSend, message: &[u8], p: Path, pool: &[u8], out: &mut [u8])
+    requires { ⌜ (length (now message) ≤ maxRecord) × Ready (now pool) p (6 + length (now message) % 2 + length (now message)) (now out) ⌝ }
+    ensures { λ _. ⌜ now (out .exit) ≡ sets (now (out .entry)) 0 (sendBytes u (now (message .entry)) (encode (segsOf (now (pool .entry)) p))) ⌝ }
+{
+    let m = message.len();
+    let at = 6 + m % 2 + m;
+    match write_path(p, pool, &mut out[at..]) {
+        Wrote::Refused(_) => {}
+        Wrote::Size(n) => {
+            put_send_head(u, m, out);
+            put_bytes(out, 4, message);
+            put_send_rest(m, (n / 2) as u8, out);
+        }
+    }
+}
+
+// Writes an Unconnected Send at the front of out, or changes nothing. The message is plain bytes here.
+pub fn write_unconnected_send(
+    u: UnconnectedSend,
+    message: &[u8],
+    p: Path,
+    pool: &[u8],
+    out: &mut [u8],
+) -> Wrote
+    ensures answer { λ r. ⌜ paperSize r ≡ withRoom (sendSize (now (pool .entry)) p (length (now (message .entry)))) (length (now (out .entry))) ⌝ }
+    ensures bytes { λ _. ⌜ now (out .exit) ≡ written (withRoom (sendSize (now (pool .entry)) p (length (now (message .entry)))) (length (now (out .entry)))) (sendBytes u (now (message .entry)) (encode (segsOf (now (pool .entry)) p))) (now (out .entry)) ⌝ }
+{
+    match unconnected_send_size(message, p, pool) {
+        Wrote::Refused(e) => Wrote::Refused(e),
+        Wrote::Size(size) => {
+            if out.len() < size {
+                return Wrote::Refused(Refusal::Room);
+            }
+            put_send(u, message, p, pool, out);
+            Wrote::Size(size)
+        }
+    }
+}

@@ -1,0 +1,2 @@
+pub mod RouteLaws
+pub mod Exact
