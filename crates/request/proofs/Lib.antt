@@ -1,0 +1,6 @@
+pub mod ReadLaws
+pub mod Routes
+pub mod RoundTrip
+pub mod OpenTrip
+pub mod Theorems
+pub mod Exact
