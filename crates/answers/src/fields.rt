@@ -182,6 +182,11 @@ pub(crate) fn path(case: &[u8], list: ListField) -> Path {
     Path { slots, count }
 }
 
+// A yes or no.
+pub(crate) fn is_flag(b: u8) -> bool {
+    b <= 1
+}
+
 // The last field of a writer's case: how long the lent output is.
 pub(crate) fn room(case: &[u8], at: usize) -> usize {
     if skip(case, at, 4) == case.len() {

@@ -1,7 +1,10 @@
 // Answers each case on standard input with one line of hex: docs/ANSWERS.md has the form of both. A line that is no case is answered `bad`.
 mod fields; // fields.rt: the fields of a case
 mod reply; // reply.rt: the bytes of an answer
+mod connections; // connections.rt: the fields of a Forward Open
 mod paths; // paths.rt: operations 01 to 07
+mod requests; // requests.rt: operations 10 to 15
+mod request_reads; // request_reads.rt: operations 18 to 1B
 
 use fields::MAX_ROOM;
 use lines::Case;
@@ -32,6 +35,12 @@ fn ask(case: &[u8], lent: &mut [u8], reply: &mut [u8]) -> usize {
     let op = wire::byte_at(case, 0);
     if op < 0x10 {
         return paths::ask(op, case, lent, reply);
+    }
+    if op < 0x18 {
+        return requests::ask(op, case, lent, reply);
+    }
+    if op < 0x20 {
+        return request_reads::ask(op, case, reply);
     }
     0
 }

@@ -1,5 +1,9 @@
 //! The crate's own answers. Everything here comes from what rseip-cip wrote; nothing from the judge.
+//! This file has segments and paths; requests have a file below it.
 
+pub mod requests;
+
+use crate::case::requests::{default_of_line, Request};
 use crate::case::{digits, meaning, Plain, Writer, ATTRIBUTE, CLASS, ELEMENT, INSTANCE, PORT, SYMBOL};
 use crate::{bytes_of, enc, guard, Encode};
 use bytes::{Bytes, BytesMut};
@@ -26,7 +30,7 @@ fn segment(p: &Plain) -> Option<Segment> {
 }
 
 /// What the crate wrote; Err where it is not at one with itself, or panicked.
-type Wrote = Result<Vec<u8>, String>;
+pub type Wrote = Result<Vec<u8>, String>;
 
 /// By reference, by value, and the count: all three have to agree.
 fn wrote<E: Encode>(v: E) -> Wrote {
@@ -50,29 +54,57 @@ pub fn one(p: &Plain) -> Option<Wrote> {
     Some(wrote(segment(p)?))
 }
 
-pub fn list(l: &[Plain]) -> Option<Wrote> {
+/// A path of the domain.
+fn epath(l: &[Plain]) -> Option<EPath> {
     if l.len() > MOST_SEGMENTS {
         return None;
     }
     let segments: Option<Vec<Segment>> = l.iter().map(segment).collect();
-    Some(wrote(EPath::from(segments?)))
+    Some(EPath::from(segments?))
+}
+
+pub fn list(l: &[Plain]) -> Option<Wrote> {
+    Some(wrote(epath(l)?))
 }
 
 /// The answer line for a case of 01 to 04, made from the crate's bytes and its count. None where the case is not in
-/// the domain, or has too little room: the crate's buffer grows. An Err of the crate's is its text, which no program
-/// answers, so it is counted as differing.
+/// the domain, or has too little room: the crate's buffer grows.
 pub fn answer(w: &Writer) -> Option<Vec<u8>> {
     let plain: Option<Vec<Plain>> = w.list.iter().map(|s| meaning(&w.pool, s)).collect();
-    let bytes = match if w.one_segment() { one(&plain?[0])? } else { list(&plain?)? } {
+    let wrote = if w.one_segment() { one(&plain?[0])? } else { list(&plain?)? };
+    writer_answer(&wrote, w.has_room().then_some(w.room))
+}
+
+/// The size, and where there is a room the bytes and what is left of it. An Err of the crate's is its text, which no
+/// program answers, so it is counted as differing.
+pub fn writer_answer(wrote: &Wrote, room: Option<u32>) -> Option<Vec<u8>> {
+    let bytes = match wrote {
         Ok(b) => b,
-        Err(text) => return Some(text.into_bytes()),
+        Err(text) => return Some(text.clone().into_bytes()),
     };
     let mut a = vec![0];
     a.extend((bytes.len() as u32).to_le_bytes());
-    if w.has_room() {
-        let spare = (w.room as usize).checked_sub(bytes.len())?;
-        a.extend(&bytes);
+    if let Some(room) = room {
+        let spare = (room as usize).checked_sub(bytes.len())?;
+        a.extend(bytes);
         a.extend(std::iter::repeat(0xA5).take(spare));
     }
     Some(digits(&a))
+}
+
+/// The answer to a line of a writer, a size, the default or the setter; None where it is not in the domain.
+pub fn of_line(line: &[u8]) -> Option<Vec<u8>> {
+    if let Some(w) = Writer::of_line(line) {
+        return answer(&w);
+    }
+    if let Some(r) = Request::of_line(line) {
+        return requests::answer(&r);
+    }
+    if let Some((large, serial, room)) = default_of_line(line) {
+        return requests::default_answer(large, serial, room);
+    }
+    match crate::case::undigits(line)?[..] {
+        [0x15, value] => Some(requests::setter_answer(value)),
+        _ => None,
+    }
 }

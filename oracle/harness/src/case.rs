@@ -1,4 +1,8 @@
-//! A case as a value, and the line that asks it. The judge does not use this file: it takes lines apart by itself.
+//! A case as a value, and the line that asks it. The judge does not use this file, nor those below it: it takes lines
+//! apart by itself.
+
+pub mod fields;
+pub mod requests;
 
 pub const SYMBOL: u8 = 0;
 pub const CLASS: u8 = 1;

@@ -5,9 +5,15 @@ pub mod lines;
 pub mod path_lists;
 pub mod path_reads;
 pub mod path_refusals;
+pub mod requests;
+pub mod requests_drawn;
+pub mod requests_fields;
+pub mod requests_limits;
+pub mod requests_reads;
 pub mod scripts;
 
 use crate::ask_crate;
+use crate::case::requests::Record;
 use crate::case::{reader_line, Plain, Writer};
 use crate::rng::Rng;
 
@@ -21,8 +27,16 @@ pub enum Truth {
     Front { first: Plain, size: u32, input: Vec<u8> },
     /// the judge; where 05 or 06 accepts all the same, the crate has to write the input again from what was read
     Input(Vec<u8>),
+    /// the judge; where 18 to 1B accepts all the same, the crate has to write the input again from what was read
+    Record(Record),
     /// the judge alone
     Judge,
+}
+
+impl Truth {
+    pub fn is_crates(&self) -> bool {
+        !matches!(self, Truth::Judge | Truth::Input(_) | Truth::Record(_))
+    }
 }
 
 pub struct Case {
@@ -37,16 +51,23 @@ pub fn fixed(to: &mut Sink) {
     path_lists::fixed(to);
     path_reads::fixed(to);
     path_refusals::fixed(to);
+    requests_fields::fixed(to);
+    requests_limits::fixed(to);
+    requests_reads::fixed(to);
     lines::fixed(to);
 }
 
 /// One draw: a case or a few that belong together.
 pub fn random(rng: &mut Rng, to: &mut Sink) {
     match rng.below(100) {
-        0..=29 => path_lists::random(rng, to),
-        30..=44 => path_lists::random_segment(rng, to),
-        45..=79 => path_reads::random(rng, to),
-        80..=92 => path_refusals::random(rng, to),
+        0..=9 => path_lists::random(rng, to),
+        10..=24 => path_lists::random_segment(rng, to),
+        25..=31 => path_reads::random(rng, to),
+        32..=34 => path_refusals::random(rng, to),
+        35..=81 => requests_drawn::random(rng, to),
+        82..=92 => requests_drawn::random_read(rng, to),
+        93..=95 => requests_drawn::random_refusal(rng, to),
+        96 => requests_drawn::random_default(rng, to),
         _ => lines::random(rng, to),
     }
 }

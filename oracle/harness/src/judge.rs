@@ -4,6 +4,7 @@
 //! This file has the lines and their fields; each group of operations has a file below it.
 
 mod paths;
+mod requests;
 
 use std::fmt::Write;
 
@@ -55,6 +56,7 @@ fn case(bytes: &[u8]) -> Option<Vec<u8>> {
     let mut f = Fields(rest);
     match op {
         0x01..=0x07 => paths::case(op, &mut f),
+        0x10..=0x15 | 0x18..=0x1B => requests::case(op, &mut f),
         _ => None,
     }
 }

@@ -2,10 +2,12 @@
 //! that is the judge's. Neither holds anything that our program said.
 
 mod crate_list;
+mod crate_requests;
 mod our_list;
+mod our_request_reads;
+mod our_requests;
 
 use crate::ask_crate;
-use crate::case::Writer;
 use crate::judge;
 use crate::tally::{Source, Tally};
 use std::io::{Error, ErrorKind, Result};
@@ -19,14 +21,16 @@ const HEAD_1: &str = ": the answers of the Rust crate rseip-cip 0.2.1.
 # Made by `sh oracle/compare.sh PAGES --record`: the crate's pages, unchanged, in a release build, were asked each
 # case and an answer line was made from the bytes and the count they gave. No program of ours had a part in it.
 # The choice is the harness's and always the same; what is drawn by chance has the seed 2021.
-# What rests on the stand-in for rseip_core and not on the pages: that String is UTF-8, and the order of IntoIter.
-# Operations 01 to 04; the crate has no path reader, no refusal and no lent output (the A5 after the bytes is ours).
+# What rests on the stand-in for rseip_core and not on the pages: that String is UTF-8, the order of IntoIter, and that
+# Bytes (the data of a message) are written as they lie.
+# Operations 01 to 04 and 10 to 15; the crate has no reader of these, no refusal and no lent output (the A5 after the
+# bytes is ours). The default Forward Open's serial is the case's, where the crate draws one by chance.
 ";
 
 const HEAD_2: &str = ": ours. No Rust gave these answers.
 # Made by the same command: oracle/harness/src/judge.rs answered each, which is written from document 01 and from
 # docs/ANSWERS.md, apart from the program that is asked. Refusals and their order, the readers, symbols that no
-# Rust String holds, and lines that are no case.
+# Rust String holds, an Unconnected Send of what is no message, and lines that are no case.
 ";
 
 /// The text of `stdin`, as it grows.
@@ -52,6 +56,7 @@ pub fn write(folder: &str) -> Result<()> {
     let mut s = Script::default();
     s.0.extend([LIST_1, HEAD_1].concat().bytes());
     crate_list::write(&mut s);
+    crate_requests::write(&mut s);
     let crate_part = s.0.len();
     s.0.extend([LIST_2, HEAD_2].concat().bytes());
     our_list::write(&mut s);
@@ -105,7 +110,6 @@ fn cases(text: &[u8]) -> impl Iterator<Item = &[u8]> {
 }
 
 fn crate_answer(line: &[u8]) -> Result<Vec<u8>> {
-    Writer::of_line(line)
-        .and_then(|w| ask_crate::answer(&w))
+    ask_crate::of_line(line)
         .ok_or_else(|| Error::new(ErrorKind::InvalidData, format!("not a case of the crate's: {}", line.escape_ascii())))
 }

@@ -79,7 +79,7 @@ struct Feed {
 impl Feed {
     fn put(&mut self, case: Case) {
         self.lines += 1;
-        self.of_crate += u64::from(!matches!(case.truth, Truth::Judge | Truth::Input(_)));
+        self.of_crate += u64::from(case.truth.is_crates());
         self.text.extend(&case.line);
         self.text.push(b'\n');
         self.batch.push(case);
@@ -155,6 +155,13 @@ fn judge_case(case: &Case, ours: &[u8], tally: &mut Tally) {
                 written_again(line, &list, input, ours, tally);
             } else if let Some((first, size)) = read_front(ours, input) {
                 written_again(line, &[first], input.get(..size as usize).unwrap_or_default(), ours, tally);
+            }
+        }
+        Truth::Record(r) => {
+            tally.add(Source::Judge, line, &judged, ours);
+            if let Some(again) = ask_crate::requests::again(r, ours) {
+                let same = again.as_ref() == Ok(&r.input);
+                tally.same(Source::Crate, line, same, || format!("of what was read it writes {again:02X?}"), ours);
             }
         }
         Truth::Judge => tally.add(Source::Judge, line, &judged, ours),

@@ -114,7 +114,8 @@ impl Tally {
 
 /// The operation of a line; a later landing adds its own.
 fn operation(line: &[u8]) -> &'static str {
-    const KNOWN: [&str; 7] = ["01", "02", "03", "04", "05", "06", "07"];
+    const KNOWN: [&str; 17] =
+        ["01", "02", "03", "04", "05", "06", "07", "10", "11", "12", "13", "14", "15", "18", "19", "1A", "1B"];
     KNOWN.into_iter().find(|op| line.starts_with(op.as_bytes())).unwrap_or("none")
 }
 

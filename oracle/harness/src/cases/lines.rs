@@ -2,7 +2,9 @@
 //! inputs with lines that have none are in scripts.rs.
 
 use super::path_lists::{any_list, scattered};
-use super::{Case, Sink, Truth};
+use super::{requests, requests_drawn, Case, Sink, Truth};
+use crate::ask_crate;
+use crate::case::requests::{default_line, Record, Request};
 use crate::case::*;
 use crate::rng::Rng;
 
@@ -13,7 +15,7 @@ pub fn judged(to: &mut Sink, line: Vec<u8>) {
     to(Case { line, truth: Truth::Judge });
 }
 
-/// A good line of each operation.
+/// A good line of each operation; that of 15 is too short for what is done with these.
 pub fn good_lines() -> Vec<Vec<u8>> {
     let (pool, list) = end_to_end(&[plain(SYMBOL, 0, b"Flow1"), plain(ELEMENT, 7, b""), plain(PORT, 15, &[5])]);
     let mut v: Vec<Vec<u8>> = (1..=4)
@@ -23,6 +25,14 @@ pub fn good_lines() -> Vec<Vec<u8>> {
         })
         .collect();
     v.extend((5..=7).map(|op| reader_line(op, &[0x91, 1, b'A', 0, 0x20, 6])));
+    for head in requests::heads() {
+        let r = Request { head, pool: pool.clone(), list: list.clone(), room: 60 };
+        v.push(r.line());
+        if let Some(Ok(input)) = ask_crate::requests::record(&r.head, &[plain(CLASS, 6, b"")]) {
+            v.push(Record::of(&r.head, &input).line());
+        }
+    }
+    v.push(default_line(0, 0x1234, 44));
     v
 }
 
@@ -153,8 +163,12 @@ pub fn random(rng: &mut Rng, to: &mut Sink) {
     let mut plain = any_list(rng);
     plain.truncate(5);
     let (pool, list) = scattered(rng, &plain);
-    let w = Writer { op: rng.pick(&[2, 4]), pool, list, room: rng.below(50) as u32 };
-    let line = w.line();
+    let room = rng.below(50) as u32;
+    let line = if rng.once_in(2) {
+        Writer { op: rng.pick(&[2, 4]), pool, list, room }.line()
+    } else {
+        Request { head: requests_drawn::any_head(rng), pool, list, room }.line()
+    };
     let at = rng.below(line.len() as u64) as usize;
     judged(
         to,
@@ -171,7 +185,8 @@ pub fn random(rng: &mut Rng, to: &mut Sink) {
             6 => {
                 let mut l = line.clone();
                 l.remove(at);
-                if l.first() == Some(&b'0') {
+                // of an operation that stands
+                if l[..2] == line[..2] {
                     l
                 } else {
                     line

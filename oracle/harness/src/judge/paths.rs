@@ -20,7 +20,7 @@ enum Kind {
 use Kind::*;
 const KINDS: [Kind; 6] = [Symbol, Class, Instance, Attribute, Element, Port];
 
-struct Seg {
+pub struct Seg {
     kind: Kind,
     number: u32,
     start: u32,
@@ -77,7 +77,7 @@ fn seg(f: &mut Fields) -> Option<Seg> {
 }
 
 /// Every segment has to be one, those past the list's places too.
-fn list(f: &mut Fields) -> Option<Vec<Seg>> {
+pub fn list(f: &mut Fields) -> Option<Vec<Seg>> {
     let count = f.u16()?;
     if count > MOST_IN_A_LINE {
         return None;
@@ -105,7 +105,7 @@ fn one(s: &Seg, pool: &[u8]) -> Judged<Vec<u8>> {
 }
 
 /// The count, then the segments first to last.
-fn all(l: &[Seg], pool: &[u8]) -> Judged<Vec<u8>> {
+pub fn all(l: &[Seg], pool: &[u8]) -> Judged<Vec<u8>> {
     if l.len() > MOST_SEGMENTS {
         return Err(3);
     }
@@ -156,7 +156,7 @@ fn logical(code: u8, number: u32) -> Vec<u8> {
 // ---- the strict reader ----
 
 /// A bare path has no limit on its bytes (DECISIONS 6). The 128th segment is 3 when its first byte is met.
-fn read_all(input: &[u8]) -> Judged<Vec<Seg>> {
+pub fn read_all(input: &[u8]) -> Judged<Vec<Seg>> {
     let mut l = vec![];
     let mut at = 0;
     while at < input.len() {

@@ -11,6 +11,7 @@ pub fn write(s: &mut Script) {
     refusals(s);
     order(s);
     readers(s);
+    super::our_requests::write(s);
     no_case(s);
     freedoms(s);
 }

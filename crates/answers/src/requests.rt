@@ -1,0 +1,199 @@
+// Operations 10 to 15: requests written, the default record, the setter.
+use crate::connections;
+use crate::fields;
+use crate::fields::ListField;
+use crate::fields::StringField;
+use crate::reply;
+use connection::ForwardCloseRequest;
+use connection::OpenOptions;
+use connection::UnconnectedSend;
+use epath::Path;
+
+// The path of a writer's case, and its output: the last three fields, POOL, LIST and ROOM.
+pub struct PathField {
+    pub pool: StringField,
+    pub list: ListField,
+    pub room: usize,
+}
+
+fn path_field(case: &[u8], at: usize) -> PathField {
+    let pool = fields::string(case, at);
+    let list = fields::list(case, pool.next);
+    let room = fields::room(case, list.next);
+    PathField { pool, list, room }
+}
+
+fn put_message(
+    service: u8,
+    p: Path,
+    pool: &[u8],
+    data: &[u8],
+    out: &mut [u8],
+    answer: &mut [u8],
+) -> usize {
+    let w = request::write_message(service, p, pool, data, out);
+    reply::wrote(w, out, answer)
+}
+
+fn write_message(case: &[u8], lent: &mut [u8], answer: &mut [u8]) -> usize {
+    let pool = fields::string(case, 2);
+    let list = fields::list(case, pool.next);
+    let data = fields::string(case, list.next);
+    let room = fields::room(case, data.next);
+    if lent.len() < room {
+        return 0;
+    }
+    reply::fill(lent, room);
+    put_message(
+        wire::byte_at(case, 1),
+        fields::path(case, list),
+        fields::bytes(case, pool),
+        fields::bytes(case, data),
+        &mut lent[0..room],
+        answer,
+    )
+}
+
+fn put_open(o: OpenOptions, p: Path, pool: &[u8], out: &mut [u8], answer: &mut [u8]) -> usize {
+    let w = request::write_forward_open(o, p, pool, out);
+    reply::wrote(w, out, answer)
+}
+
+fn write_open(case: &[u8], lent: &mut [u8], answer: &mut [u8]) -> usize {
+    let f = path_field(case, 2 + connections::OPEN);
+    let room = f.room;
+    if lent.len() < room {
+        return 0;
+    }
+    let fixed = wire::part_of(case, 2, connections::OPEN);
+    if !fields::is_flag(wire::byte_at(case, 1)) || !connections::good_open(fixed) {
+        return 0;
+    }
+    reply::fill(lent, room);
+    put_open(
+        connections::open(wire::byte_at(case, 1) == 1, fixed),
+        fields::path(case, f.list),
+        fields::bytes(case, f.pool),
+        &mut lent[0..room],
+        answer,
+    )
+}
+
+fn put_close(
+    c: ForwardCloseRequest,
+    p: Path,
+    pool: &[u8],
+    out: &mut [u8],
+    answer: &mut [u8],
+) -> usize {
+    let w = request::write_forward_close(c, p, pool, out);
+    reply::wrote(w, out, answer)
+}
+
+fn write_close(case: &[u8], lent: &mut [u8], answer: &mut [u8]) -> usize {
+    let f = path_field(case, 11);
+    let room = f.room;
+    if lent.len() < room {
+        return 0;
+    }
+    reply::fill(lent, room);
+    let c = ForwardCloseRequest {
+        priority_time_ticks: wire::byte_at(case, 1),
+        timeout_ticks: wire::byte_at(case, 2),
+        connection_serial_number: wire::u16_at(case, 3),
+        originator_vendor_id: wire::u16_at(case, 5),
+        originator_serial_number: wire::u32_at(case, 7),
+    };
+    put_close(
+        c,
+        fields::path(case, f.list),
+        fields::bytes(case, f.pool),
+        &mut lent[0..room],
+        answer,
+    )
+}
+
+fn put_send(
+    u: UnconnectedSend,
+    message: &[u8],
+    p: Path,
+    pool: &[u8],
+    out: &mut [u8],
+    answer: &mut [u8],
+) -> usize {
+    let w = request::write_unconnected_send(u, message, p, pool, out);
+    reply::wrote(w, out, answer)
+}
+
+fn write_send(case: &[u8], lent: &mut [u8], answer: &mut [u8]) -> usize {
+    let message = fields::string(case, 3);
+    let f = path_field(case, message.next);
+    let room = f.room;
+    if lent.len() < room {
+        return 0;
+    }
+    reply::fill(lent, room);
+    let u = UnconnectedSend {
+        priority_ticks: wire::byte_at(case, 1),
+        timeout_ticks: wire::byte_at(case, 2),
+    };
+    put_send(
+        u,
+        fields::bytes(case, message),
+        fields::path(case, f.list),
+        fields::bytes(case, f.pool),
+        &mut lent[0..room],
+        answer,
+    )
+}
+
+fn default_open(large: bool, serial: u16) -> OpenOptions {
+    let mut o = connection::default_options(serial);
+    o.large_open = large;
+    o
+}
+
+fn write_default(case: &[u8], lent: &mut [u8], answer: &mut [u8]) -> usize {
+    let room = fields::room(case, 4);
+    let large = wire::byte_at(case, 1);
+    if lent.len() < room || !fields::is_flag(large) {
+        return 0;
+    }
+    reply::fill(lent, room);
+    let o = default_open(large == 1, wire::u16_at(case, 2));
+    let p = request::default_connection_path();
+    put_open(o, p, &[], &mut lent[0..room], answer)
+}
+
+fn mask(case: &[u8], answer: &mut [u8]) -> usize {
+    if case.len() != 2 {
+        return 0;
+    }
+    let o = connection::priority_tick_time(connection::default_options(0), wire::byte_at(case, 1));
+    wire::put_byte(answer, 0, 0);
+    wire::put_byte(answer, 1, o.priority_tick_time);
+    2
+}
+
+// Puts the answer of a case at the front of answer, and answers how many bytes it has; 0 for what is no case.
+pub(crate) fn ask(op: u8, case: &[u8], lent: &mut [u8], answer: &mut [u8]) -> usize {
+    if op == 0x10 {
+        return write_message(case, lent, answer);
+    }
+    if op == 0x11 {
+        return write_open(case, lent, answer);
+    }
+    if op == 0x12 {
+        return write_close(case, lent, answer);
+    }
+    if op == 0x13 {
+        return write_send(case, lent, answer);
+    }
+    if op == 0x14 {
+        return write_default(case, lent, answer);
+    }
+    if op == 0x15 {
+        return mask(case, answer);
+    }
+    0
+}

@@ -1,0 +1,89 @@
+//! The fields of a request in a line: put, and taken off the front again.
+
+use super::requests::{Close, Open, Par};
+use super::{seg_at, u32_at, Seg};
+
+pub fn put_open(b: &mut Vec<u8>, o: &Open) {
+    b.extend([o.prio, o.ticks]);
+    b.extend(o.o_t_id.to_le_bytes());
+    b.extend(o.t_o_id.to_le_bytes());
+    b.extend(o.serial.to_le_bytes());
+    b.extend(o.vendor.to_le_bytes());
+    b.extend(o.originator.to_le_bytes());
+    b.push(o.multiplier);
+    for (rpi, p) in [(o.o_t_rpi, &o.o_t), (o.t_o_rpi, &o.t_o)] {
+        b.extend(rpi.to_le_bytes());
+        b.extend(p.size.to_le_bytes());
+        b.extend([p.variable, p.priority, p.kind, p.owner]);
+    }
+    b.extend([o.direction, o.trigger, o.class]);
+}
+
+pub fn put_close(b: &mut Vec<u8>, c: &Close) {
+    b.extend([c.prio, c.ticks]);
+    b.extend(c.serial.to_le_bytes());
+    b.extend(c.vendor.to_le_bytes());
+    b.extend(c.originator.to_le_bytes());
+}
+
+/// Fields off the front; None where they are cut short.
+pub struct Take<'a>(pub &'a [u8]);
+
+impl Take<'_> {
+    pub fn u8(&mut self) -> Option<u8> {
+        let (first, rest) = self.0.split_first()?;
+        self.0 = rest;
+        Some(*first)
+    }
+    pub fn u16(&mut self) -> Option<u16> {
+        Some(u16::from_le_bytes([self.u8()?, self.u8()?]))
+    }
+    pub fn u32(&mut self) -> Option<u32> {
+        let n = u32_at(self.0, 0)?;
+        self.0 = &self.0[4..];
+        Some(n)
+    }
+    pub fn run(&mut self) -> Option<Vec<u8>> {
+        let n = self.u32()? as usize;
+        let run = self.0.get(..n)?.to_vec();
+        self.0 = &self.0[n..];
+        Some(run)
+    }
+    pub fn seg(&mut self) -> Option<Seg> {
+        let s = seg_at(self.0, 0)?;
+        self.0 = &self.0[13..];
+        Some(s)
+    }
+    /// What a start and a length name in an input.
+    pub fn part(&mut self, input: &[u8]) -> Option<Vec<u8>> {
+        let (start, len) = (self.u32()? as usize, self.u32()? as usize);
+        Some(input.get(start..start + len)?.to_vec())
+    }
+    pub fn par(&mut self) -> Option<Par> {
+        Some(Par { size: self.u16()?, variable: self.u8()?, priority: self.u8()?, kind: self.u8()?, owner: self.u8()? })
+    }
+    pub fn open(&mut self, large: u8) -> Option<Open> {
+        Some(Open {
+            large,
+            prio: self.u8()?,
+            ticks: self.u8()?,
+            o_t_id: self.u32()?,
+            t_o_id: self.u32()?,
+            serial: self.u16()?,
+            vendor: self.u16()?,
+            originator: self.u32()?,
+            multiplier: self.u8()?,
+            o_t_rpi: self.u32()?,
+            o_t: self.par()?,
+            t_o_rpi: self.u32()?,
+            t_o: self.par()?,
+            direction: self.u8()?,
+            trigger: self.u8()?,
+            class: self.u8()?,
+        })
+    }
+    pub fn close(&mut self) -> Option<Close> {
+        let (prio, ticks) = (self.u8()?, self.u8()?);
+        Some(Close { prio, ticks, serial: self.u16()?, vendor: self.u16()?, originator: self.u32()? })
+    }
+}
