@@ -18,18 +18,46 @@ use Rattle.lines.proofs.blank_line
 use Rattle.lines.proofs.take_char
 use Rattle.lines.proofs.line_case
 use Rattle.lines.proofs.Exact as Lines
-use Rattle.epath_encode.proofs.blank_path
-use Rattle.epath_encode.proofs.default_port
-use Rattle.epath_encode.proofs.is_port
 use Rattle.epath_encode.proofs.segment_size
 use Rattle.epath_encode.proofs.path_size
 use Rattle.epath_encode.proofs.write_segment
 use Rattle.epath_encode.proofs.write_path
 use Rattle.epath_encode.proofs.Exact as EpathEncode
+use Rattle.epath_lists.proofs.blank_path
+use Rattle.epath_lists.proofs.default_port
+use Rattle.epath_lists.proofs.is_port
+use Rattle.epath_lists.proofs.Exact as EpathLists
 use Rattle.epath.proofs.read_segment
 use Rattle.epath.proofs.check_path
 use Rattle.epath.proofs.read_path
 use Rattle.epath.proofs.Exact as Epath
+use Rattle.connection.proofs.default_parameters
+use Rattle.connection.proofs.default_options
+use Rattle.connection.proofs.priority_tick_time
+use Rattle.connection.proofs.Exact as Connection
+use Rattle.connection_words.proofs.encode_parameters
+use Rattle.connection_words.proofs.decode_parameters
+use Rattle.connection_words.proofs.transport_class_trigger
+use Rattle.connection_words.proofs.transport_of
+use Rattle.connection_words.proofs.Exact as ConnectionWords
+use Rattle.route.proofs.route_size
+use Rattle.route.proofs.Exact as Route
+use Rattle.forward_encode.proofs.default_connection_path
+use Rattle.forward_encode.proofs.forward_open_size
+use Rattle.forward_encode.proofs.write_forward_open
+use Rattle.forward_encode.proofs.forward_close_size
+use Rattle.forward_encode.proofs.write_forward_close
+use Rattle.forward_encode.proofs.Exact as ForwardEncode
+use Rattle.request_encode.proofs.message_size
+use Rattle.request_encode.proofs.write_message
+use Rattle.request_encode.proofs.unconnected_send_size
+use Rattle.request_encode.proofs.write_unconnected_send
+use Rattle.request_encode.proofs.Exact as RequestEncode
+use Rattle.request.proofs.read_message
+use Rattle.request.proofs.read_forward_open
+use Rattle.request.proofs.read_forward_close
+use Rattle.request.proofs.read_unconnected_send
+use Rattle.request.proofs.Exact as Request
 
 pub record Claims : Type 2 where
   -- wire
@@ -48,17 +76,45 @@ pub record Claims : Type 2 where
   pub take-char : Exact take_char.ended (λ _. take_char.clauses)
   pub line-case : Exact line_case.ended (λ _. line_case.clauses)
   -- epath_encode
-  pub blank-path : Exact blank_path.ended (λ _. blank_path.clauses)
-  pub default-port : Exact default_port.ended (λ _. default_port.clauses)
-  pub is-port : Exact is_port.ended (λ _. is_port.clauses)
   pub segment-size : Exact segment_size.ended (λ _. segment_size.clauses)
   pub path-size : Exact path_size.ended (λ _. path_size.clauses)
   pub write-segment : Exact write_segment.ended (λ _. write_segment.clauses)
   pub write-path : Exact write_path.ended (λ _. write_path.clauses)
+  -- epath_lists
+  pub blank-path : Exact blank_path.ended (λ _. blank_path.clauses)
+  pub default-port : Exact default_port.ended (λ _. default_port.clauses)
+  pub is-port : Exact is_port.ended (λ _. is_port.clauses)
   -- epath
   pub read-segment : Exact read_segment.ended (λ _. read_segment.clauses)
   pub check-path : Exact check_path.ended (λ _. check_path.clauses)
   pub read-path : Exact read_path.ended (λ _. read_path.clauses)
+  -- connection
+  pub default-parameters : Exact default_parameters.ended (λ _. default_parameters.clauses)
+  pub default-options : Exact default_options.ended (λ _. default_options.clauses)
+  pub priority-tick-time : Exact priority_tick_time.ended (λ _. priority_tick_time.clauses)
+  -- connection_words
+  pub encode-parameters : Exact encode_parameters.ended (λ _. encode_parameters.clauses)
+  pub decode-parameters : Exact decode_parameters.ended (λ _. decode_parameters.clauses)
+  pub transport-class-trigger : Exact transport_class_trigger.ended (λ _. transport_class_trigger.clauses)
+  pub transport-of : Exact transport_of.ended (λ _. transport_of.clauses)
+  -- route
+  pub route-size : Exact route_size.ended (λ _. route_size.clauses)
+  -- forward_encode
+  pub default-connection-path : Exact default_connection_path.ended (λ _. default_connection_path.clauses)
+  pub forward-open-size : Exact forward_open_size.ended (λ _. forward_open_size.clauses)
+  pub write-forward-open : Exact write_forward_open.ended (λ _. write_forward_open.clauses)
+  pub forward-close-size : Exact forward_close_size.ended (λ _. forward_close_size.clauses)
+  pub write-forward-close : Exact write_forward_close.ended (λ _. write_forward_close.clauses)
+  -- request_encode
+  pub message-size : Exact message_size.ended (λ _. message_size.clauses)
+  pub write-message : Exact write_message.ended (λ _. write_message.clauses)
+  pub unconnected-send-size : Exact unconnected_send_size.ended (λ _. unconnected_send_size.clauses)
+  pub write-unconnected-send : Exact write_unconnected_send.ended (λ _. write_unconnected_send.clauses)
+  -- request
+  pub read-message : Exact read_message.ended (λ _. read_message.clauses)
+  pub read-forward-open : Exact read_forward_open.ended (λ _. read_forward_open.clauses)
+  pub read-forward-close : Exact read_forward_close.ended (λ _. read_forward_close.clauses)
+  pub read-unconnected-send : Exact read_unconnected_send.ended (λ _. read_unconnected_send.clauses)
 
 pub claims : Claims
 claims =
@@ -76,9 +132,9 @@ claims =
       blank-line = Lines.blank-line-exact;
       take-char = Lines.take-char-exact;
       line-case = Lines.line-case-exact;
-      blank-path = EpathEncode.blank-path-exact;
-      default-port = EpathEncode.default-port-exact;
-      is-port = EpathEncode.is-port-exact;
+      blank-path = EpathLists.blank-path-exact;
+      default-port = EpathLists.default-port-exact;
+      is-port = EpathLists.is-port-exact;
       segment-size = EpathEncode.segment-size-exact;
       path-size = EpathEncode.path-size-exact;
       write-segment = EpathEncode.write-segment-exact;
@@ -86,4 +142,25 @@ claims =
       read-segment = Epath.read-segment-exact;
       check-path = Epath.check-path-exact;
       read-path = Epath.read-path-exact;
+      default-parameters = Connection.default-parameters-exact;
+      default-options = Connection.default-options-exact;
+      priority-tick-time = Connection.priority-tick-time-exact;
+      encode-parameters = ConnectionWords.encode-parameters-exact;
+      decode-parameters = ConnectionWords.decode-parameters-exact;
+      transport-class-trigger = ConnectionWords.transport-class-trigger-exact;
+      transport-of = ConnectionWords.transport-of-exact;
+      route-size = Route.route-size-exact;
+      default-connection-path = ForwardEncode.default-connection-path-exact;
+      forward-open-size = ForwardEncode.forward-open-size-exact;
+      write-forward-open = ForwardEncode.write-forward-open-exact;
+      forward-close-size = ForwardEncode.forward-close-size-exact;
+      write-forward-close = ForwardEncode.write-forward-close-exact;
+      message-size = RequestEncode.message-size-exact;
+      write-message = RequestEncode.write-message-exact;
+      unconnected-send-size = RequestEncode.unconnected-send-size-exact;
+      write-unconnected-send = RequestEncode.write-unconnected-send-exact;
+      read-message = Request.read-message-exact;
+      read-forward-open = Request.read-forward-open-exact;
+      read-forward-close = Request.read-forward-close-exact;
+      read-unconnected-send = Request.read-unconnected-send-exact;
     }
