@@ -1,6 +1,2 @@
 pub mod ReadLaws
-pub mod Routes
-pub mod RoundTrip
-pub mod OpenTrip
-pub mod Theorems
 pub mod Exact

@@ -21,11 +21,11 @@ use Rattle.connection_words.specs.Requests.{messageBytes, openBytes, closeBytes
 use Rattle.connection.specs.declared.OpenOptions.{OpenOptions}
 use Rattle.connection.specs.declared.ForwardCloseRequest.{ForwardCloseRequest}
 use Rattle.connection.specs.declared.UnconnectedSend.{UnconnectedSend}
 use Rattle.request.specs.declared.MessageRequest.{MessageRequest}
 use Rattle.request.specs.Reads.{transportPlace, messageEnd, readMessage, opened, readOpen, closed, readClose, sent, readSend}
-use Rattle.request.proofs.Routes.{Route}
-use Rattle.request.proofs.RoundTrip.{MessageBack, message-read-of-written, message-written-of-read, CloseFits, CloseBack, close-read-of-written, close-written-of-read, SendFits, SendBack, send-read-of-written, send-written-of-read}
-use Rattle.request.proofs.OpenTrip.{OpenFits, OpenBack, open-read-of-written, open-written-of-read}
+use Rattle.request_theorems.proofs.Routes.{Route}
+use Rattle.request_theorems.proofs.RoundTrip.{MessageBack, message-read-of-written, message-written-of-read, CloseFits, CloseBack, close-read-of-written, close-written-of-read, SendFits, SendBack, send-read-of-written, send-written-of-read}
+use Rattle.request_theorems.proofs.OpenTrip.{OpenFits, OpenBack, open-read-of-written, open-written-of-read}
 use Rattle.wire.proofs.Numbers.{bytes-part}
 use Rattle.connection_words.proofs.Lengths.{message-length, send-length}
 

@@ -16,9 +16,9 @@ use Rattle.connection.specs.Limits.{maxRecord}
 use Rattle.connection_words.specs.Requests.{words, messageFields, messageBytes, closeFields, closeBytes, sendHead, sendRest, sendBytes}
 use Rattle.connection.specs.declared.ForwardCloseRequest.{ForwardCloseRequest}
 use Rattle.connection.specs.declared.UnconnectedSend.{UnconnectedSend}
 use Rattle.request.specs.declared.MessageRequest.{MessageRequest}
 use Rattle.request.specs.Reads.{mostTicks, firstRules, pathBytes, pathAt, paddedRouteAt, messageAt, readMessage, closed, closeAt, readClose, sent, sendAt, messageEnd, messageRules, sendBehind, readSend}
-use Rattle.request.proofs.Routes.{Route, words-small, size-back, path-back, padded-back, SizeWas, size-was, PathWas, path-was, PaddedWas, padded-was, words-was, route-again}
+use Rattle.request_theorems.proofs.Routes.{Route, words-small, size-back, path-back, padded-back, SizeWas, size-was, PathWas, path-was, PaddedWas, padded-was, words-was, route-again}
 
 -- ---- message
 

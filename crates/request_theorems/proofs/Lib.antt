@@ -1,0 +1,4 @@
+pub mod Routes
+pub mod RoundTrip
+pub mod OpenTrip
+pub mod Theorems
