@@ -18,8 +18,9 @@ use Rattle.lines.proofs.blank_line
 use Rattle.lines.proofs.take_char
 use Rattle.lines.proofs.line_case
 use Rattle.lines.proofs.Exact as Lines
-use Rattle.epath_encode.proofs.segment_size
-use Rattle.epath_encode.proofs.path_size
+use Rattle.epath_sizes.proofs.segment_size
+use Rattle.epath_sizes.proofs.path_size
+use Rattle.epath_sizes.proofs.Exact as EpathSizes
 use Rattle.epath_encode.proofs.write_segment
 use Rattle.epath_encode.proofs.write_path
 use Rattle.epath_encode.proofs.Exact as EpathEncode
@@ -75,9 +76,10 @@ pub record Claims : Type 2 where
   pub blank-line : Exact blank_line.ended (λ _. blank_line.clauses)
   pub take-char : Exact take_char.ended (λ _. take_char.clauses)
   pub line-case : Exact line_case.ended (λ _. line_case.clauses)
-  -- epath_encode
+  -- epath_sizes
   pub segment-size : Exact segment_size.ended (λ _. segment_size.clauses)
   pub path-size : Exact path_size.ended (λ _. path_size.clauses)
+  -- epath_encode
   pub write-segment : Exact write_segment.ended (λ _. write_segment.clauses)
   pub write-path : Exact write_path.ended (λ _. write_path.clauses)
   -- epath_lists
@@ -135,8 +137,8 @@ claims =
       blank-path = EpathLists.blank-path-exact;
       default-port = EpathLists.default-port-exact;
       is-port = EpathLists.is-port-exact;
-      segment-size = EpathEncode.segment-size-exact;
-      path-size = EpathEncode.path-size-exact;
+      segment-size = EpathSizes.segment-size-exact;
+      path-size = EpathSizes.path-size-exact;
       write-segment = EpathEncode.write-segment-exact;
       write-path = EpathEncode.write-path-exact;
       read-segment = Epath.read-segment-exact;

@@ -10,17 +10,17 @@ use Rattle.wire.specs.Numbers.{valueOf, lowFirst}
 use Rattle.wire.specs.Answers.{Answer, done, under, other}
 use Rattle.wire.proofs.Numbers.{value-low, low-length, below-or}
 use Rattle.wire.proofs.Rules.{all-keep}
-use Rattle.epath_encode.specs.Limits.{maxLink, nearPort, farPortCode, longLink, elementCode, symbolCode}
-use Rattle.epath_encode.specs.Segments.{Seg, symbol, class, instance, attribute, element, port, logical, pad, padded, farPort, farValue, encodeSeg, Fine, norm}
+use Rattle.epath_sizes.specs.Limits.{maxLink, nearPort, farPortCode, longLink, elementCode, symbolCode}
+use Rattle.epath_sizes.specs.Segments.{Seg, symbol, class, instance, attribute, element, port, logical, pad, padded, farPort, farValue, encodeSeg, Fine, norm}
 use Rattle.epath.specs.declared.decode.Kind.{Kind}
 use Rattle.epath.specs.declared.decode.Kind.the-variants.{Class as kClass, Instance as kInstance, Attribute as kAttribute, Element as kElement}
 use Rattle.epath.specs.declared.decode.Form.{Form}
 use Rattle.epath.specs.declared.decode.Form.the-variants.{Port as fPort, Symbol as fSymbol, Narrow, Wide, Widest}
-use Rattle.epath_encode.specs.declared.Segment.{Segment}
-use Rattle.epath_encode.specs.declared.Segment.the-variants.{Symbol, Element, Port}
+use Rattle.epath_sizes.specs.declared.Segment.{Segment}
+use Rattle.epath_sizes.specs.declared.Segment.the-variants.{Symbol, Element, Port}
 use Rattle.epath.specs.Reads.{Front, front, formOf, lookup, made, readNarrow, readWide, readPart, readSymbol, readLink, readPortNumber, readAs, readSeg, parsed, parse}
 use Rattle.epath.proofs.ReadLaws.{form-port, part-even, part-odd, symbol-is, link-is, number-low, number-is, port-one, port-is, front-is}
-use Rattle.epath_encode.proofs.Forms.{number-one, number-two, number-four, head-short, head-long, head-escaped, head-both, padded-even, padded-odd}
+use Rattle.epath_sizes.proofs.Forms.{number-one, number-two, number-four, head-short, head-long, head-escaped, head-both, padded-even, padded-odd}
 use Rattle.epath.proofs.Begins.{codeOf}
 
 near-or : (p : ℕ) → (p ≤ nearPort) ⊎ (nearPort < p)

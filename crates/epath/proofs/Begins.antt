@@ -5,7 +5,7 @@ use mathlib.Core.List.{List, [], _∷_}
 use mathlib.Core.Bool.{Bool, true, false}
 use lib.Dec.{eqb, ltb}
 use borrow.Author.Tests.{ltb-true, eqb-true}
-use Rattle.epath_encode.specs.Limits.{portEnd, classCode, instanceCode, elementCode, attributeCode, symbolCode}
+use Rattle.epath_sizes.specs.Limits.{portEnd, classCode, instanceCode, elementCode, attributeCode, symbolCode}
 use Rattle.epath.specs.declared.decode.Kind.{Kind}
 use Rattle.epath.specs.declared.decode.Kind.the-variants.{Class as kClass, Instance as kInstance, Attribute as kAttribute, Element as kElement}
 use Rattle.epath.specs.declared.decode.Form.{Form}

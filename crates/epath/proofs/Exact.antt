@@ -10,7 +10,7 @@ use Rattle.epath.specs.Reads.{paperFront}
 use Rattle.epath.specs.Paths.{PathFound, paperPath}
 use Rattle.epath.specs.declared.SegmentRead.{SegmentRead}
 use Rattle.epath.specs.declared.SegmentRead.the-variants.{Found, Refused}
-use Rattle.epath_encode.specs.declared.Path.{Path}
+use Rattle.epath_sizes.specs.declared.Path.{Path}
 use Rattle.epath.specs.declared.PathRead.{PathRead}
 use Rattle.epath.proofs.decode.read_segment
 use Rattle.epath.proofs.decode.check_path

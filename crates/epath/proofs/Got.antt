@@ -11,17 +11,17 @@ use Rattle.wire.specs.Numbers.{valueOf, lowFirst, Bytes}
 use Rattle.wire.specs.Answers.{done, under, over, other, KeepsAll}
 use Rattle.wire.proofs.Numbers.{low-value, value-small, bytes-drop, below-or, first-one, first-two}
 use Rattle.wire.proofs.Rules.{all-were, never}
-use Rattle.epath_encode.specs.Limits.{maxLink, mostBytes, portEnd, nearPort, farPortCode, longLink, elementCode, symbolCode}
-use Rattle.epath_encode.specs.Segments.{port, logical, padded, portHead, farPort, farValue, encodeSeg, Fine, linked, norm}
-use Rattle.epath_encode.specs.Lists.{meaning, startOf, lenOf}
+use Rattle.epath_sizes.specs.Limits.{maxLink, mostBytes, portEnd, nearPort, farPortCode, longLink, elementCode, symbolCode}
+use Rattle.epath_sizes.specs.Segments.{port, logical, padded, portHead, farPort, farValue, encodeSeg, Fine, linked, norm}
+use Rattle.epath_sizes.specs.Lists.{meaning, startOf, lenOf}
 use Rattle.epath.specs.declared.decode.Kind.{Kind}
 use Rattle.epath.specs.declared.decode.Kind.the-variants.{Class as kClass, Instance as kInstance, Attribute as kAttribute, Element as kElement}
 use Rattle.epath.specs.declared.decode.Form.{Form}
 use Rattle.epath.proofs.ReadLaws.{number-low, number-high, port-one, port-long}
-use Rattle.epath_encode.specs.declared.Segment.{Segment}
-use Rattle.epath_encode.specs.declared.Segment.the-variants.{Symbol, Element, Port}
+use Rattle.epath_sizes.specs.declared.Segment.{Segment}
+use Rattle.epath_sizes.specs.declared.Segment.the-variants.{Symbol, Element, Port}
 use Rattle.epath.specs.Reads.{front, padRules, readPart, readWide, readNarrow, readSymbol, readLink, readPortNumber, readPort, readAs, readSeg, made, formOf}
-use Rattle.epath_encode.proofs.Forms.{number-one, number-two, number-four, head-short, head-long, head-escaped, head-both, padded-even, padded-odd}
+use Rattle.epath_sizes.proofs.Forms.{number-one, number-two, number-four, head-short, head-long, head-escaped, head-both, padded-even, padded-odd}
 use Rattle.epath.proofs.Begins.{codeOf, Begins, begins, symbol as bSymbol, port as bPort, narrow as bNarrow, wide as bWide, widest as bWidest, unknown as bUnknown}
 
 -- ---- bytes with a pad

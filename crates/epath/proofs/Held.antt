@@ -8,10 +8,10 @@ use lib.ListN.{length, drop, length-drop}
 use Rattle.wire.specs.Numbers.{Bytes}
 use Rattle.wire.specs.Answers.{Answer, done, refused}
 use Rattle.wire.proofs.Numbers.{below-or, bytes-drop}
-use Rattle.epath_encode.specs.Lists.{startOf, lenOf, shifted}
-use Rattle.epath_encode.specs.declared.Segment.{Segment}
-use Rattle.epath_encode.specs.declared.Segment.the-variants.{Symbol, Class, Instance, Attribute, Element, Port}
-use Rattle.epath_encode.specs.declared.Slot.{Slot}
+use Rattle.epath_sizes.specs.Lists.{startOf, lenOf, shifted}
+use Rattle.epath_sizes.specs.declared.Segment.{Segment}
+use Rattle.epath_sizes.specs.declared.Segment.the-variants.{Symbol, Class, Instance, Attribute, Element, Port}
+use Rattle.epath_sizes.specs.declared.Slot.{Slot}
 use Rattle.epath.specs.Reads.{Front, front, readSeg, moved}
 use Rattle.epath.specs.Paths.{before, walk, listOf}
 use Rattle.epath.proofs.Got.{got}

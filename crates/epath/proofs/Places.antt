@@ -11,8 +11,8 @@ use Rattle.wire.specs.declared.Refusal.{Refusal}
 use Rattle.wire.specs.Answers.{done, refused}
 use Rattle.wire.proofs.Numbers.{bytes-drop}
 use Rattle.wire.proofs.Stores.{lent-all}
-use Rattle.epath_encode.specs.Lists.{startOf, shifted}
-use Rattle.epath_encode.specs.declared.Segment.{Segment}
+use Rattle.epath_sizes.specs.Lists.{startOf, shifted}
+use Rattle.epath_sizes.specs.declared.Segment.{Segment}
 use Rattle.epath.specs.declared.SegmentRead.{SegmentRead}
 use Rattle.epath.specs.declared.SegmentRead.the-variants.{Found, Refused}
 use Rattle.epath.specs.Reads.{front, paperFront, readSeg}

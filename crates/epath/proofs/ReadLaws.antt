@@ -10,13 +10,13 @@ use borrow.Author.Tests.{lt-ltb, le-ltb, ne-eqb}
 use Rattle.wire.specs.Numbers.{valueOf}
 use Rattle.wire.specs.Answers.{Answer, done, refused, under, over, judged}
 use Rattle.wire.proofs.Rules.{rules}
-use Rattle.epath_encode.specs.Limits.{maxLink, maxPlace, portEnd, nearPort, farPortCode, longLink, classCode, instanceCode, elementCode, attributeCode, symbolCode}
-use Rattle.epath_encode.specs.declared.Segment.{Segment}
-use Rattle.epath_encode.specs.declared.Segment.the-variants.{Symbol, Class, Instance, Attribute, Element, Port}
-use Rattle.epath_encode.specs.declared.PortSegment.{PortSegment}
-use Rattle.epath_encode.specs.declared.SymbolSegment.{SymbolSegment}
-use Rattle.epath_encode.specs.Segments.{farValue}
-use Rattle.epath_encode.specs.Lists.{startOf, shifted}
+use Rattle.epath_sizes.specs.Limits.{maxLink, maxPlace, portEnd, nearPort, farPortCode, longLink, classCode, instanceCode, elementCode, attributeCode, symbolCode}
+use Rattle.epath_sizes.specs.declared.Segment.{Segment}
+use Rattle.epath_sizes.specs.declared.Segment.the-variants.{Symbol, Class, Instance, Attribute, Element, Port}
+use Rattle.epath_sizes.specs.declared.PortSegment.{PortSegment}
+use Rattle.epath_sizes.specs.declared.SymbolSegment.{SymbolSegment}
+use Rattle.epath_sizes.specs.Segments.{farValue}
+use Rattle.epath_sizes.specs.Lists.{startOf, shifted}
 use Rattle.epath.specs.declared.decode.Kind.{Kind}
 use Rattle.epath.specs.declared.decode.Kind.the-variants.{Class as kClass, Instance as kInstance, Attribute as kAttribute, Element as kElement}
 use Rattle.epath.specs.declared.decode.Form.{Form}

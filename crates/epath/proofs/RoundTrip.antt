@@ -10,12 +10,12 @@ use Rattle.wire.specs.Numbers.{Bytes}
 use Rattle.wire.specs.Answers.{Answer, done, refused}
 use Rattle.wire.proofs.Numbers.{below-or, bytes-drop}
 use Rattle.wire.proofs.Rules.{never}
-use Rattle.epath_encode.specs.Limits.{maxSegments}
-use Rattle.epath_encode.specs.Segments.{Seg, encodeSeg, encode, Fine, AllFine, norm}
-use Rattle.epath_encode.specs.Lists.{meaning, shifted}
-use Rattle.epath_encode.specs.declared.Segment.{Segment}
-use Rattle.epath_encode.specs.declared.Segment.the-variants.{Symbol, Class, Instance, Attribute, Element, Port}
-use Rattle.epath_encode.specs.declared.Slot.{Slot}
+use Rattle.epath_sizes.specs.Limits.{maxSegments}
+use Rattle.epath_sizes.specs.Segments.{Seg, encodeSeg, encode, Fine, AllFine, norm}
+use Rattle.epath_sizes.specs.Lists.{meaning, shifted}
+use Rattle.epath_sizes.specs.declared.Segment.{Segment}
+use Rattle.epath_sizes.specs.declared.Segment.the-variants.{Symbol, Class, Instance, Attribute, Element, Port}
+use Rattle.epath_sizes.specs.declared.Slot.{Slot}
 use Rattle.epath.specs.Reads.{Front, front, readSeg, parsed, seen, parse, moved}
 use Rattle.epath.specs.Paths.{before, walk, sees, parsePath}
 use Rattle.epath.proofs.ReadLaws.{front-short}

@@ -11,20 +11,21 @@ use Rattle.wire.specs.Folds.{sizes}
 use Rattle.wire.proofs.Rules.{never, all-keep}
 use Rattle.wire.proofs.Answers.{room-was}
 use Rattle.wire.proofs.Stores.{part-length}
-use Rattle.epath_encode.specs.Limits.{maxSegments, maxSymbol, maxLink}
-use Rattle.epath_encode.specs.Segments.{Seg, encodeSeg, encode, Fine, AllFine, norm}
-use Rattle.epath_encode.specs.Lists.{meaning, slotsOf, segs, segsOf, blank, blanks, pathOf, startOf, lenOf}
-use Rattle.epath_encode.specs.Writes.{segmentRules, segmentSize, pathSize, Good, AllGoodIn}
+use Rattle.epath_sizes.specs.Limits.{maxSegments, maxSymbol, maxLink}
+use Rattle.epath_sizes.specs.Segments.{Seg, encodeSeg, encode, Fine, AllFine, norm}
+use Rattle.epath_sizes.specs.Lists.{meaning, slotsOf, segs, segsOf, blank, blanks, pathOf, startOf, lenOf}
+use Rattle.epath_sizes.specs.Sizes.{segmentRules, segmentSize, pathSize, Good, AllGoodIn}
 use Rattle.epath.specs.Paths.{walk, countOf, listOf, PathFound, readPath, checkPath, sees, parsePath}
-use Rattle.epath_encode.specs.declared.Segment.{Segment}
-use Rattle.epath_encode.specs.declared.Segment.the-variants.{Symbol, Class, Instance, Attribute, Element, Port}
-use Rattle.epath_encode.specs.declared.Slot.{Slot}
-use Rattle.epath_encode.specs.declared.Path.{Path}
-use Rattle.epath_encode.proofs.SizeLaws.{keeps-inside}
-use Rattle.epath_encode.proofs.PathLaws.{sizeIn, PathSized, path-sized}
+use Rattle.epath_sizes.specs.declared.Segment.{Segment}
+use Rattle.epath_sizes.specs.declared.Segment.the-variants.{Symbol, Class, Instance, Attribute, Element, Port}
+use Rattle.epath_sizes.specs.declared.Slot.{Slot}
+use Rattle.epath_sizes.specs.declared.Path.{Path}
+use Rattle.epath_sizes.proofs.SizeLaws.{keeps-inside}
+use Rattle.epath_sizes.proofs.PathLaws.{sizeIn, PathSized, path-sized}
 use Rattle.epath.proofs.Held.{AllHeld, all-held}
 use Rattle.epath.proofs.RoundTrip.{Written, read-of-written, written-of-read}
-use Rattle.epath_encode.proofs.Theorems.{answerOf, leftBy, left-front, path-even}
+use Rattle.epath_sizes.proofs.Even.{path-even}
+use Rattle.epath_encode.proofs.Theorems.{answerOf, leftBy, left-front}
 
 -- ---- what was written reads back
 

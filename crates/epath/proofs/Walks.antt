@@ -11,13 +11,13 @@ use borrow.Author.Tests.{lt-ltb, le-ltb}
 use Rattle.wire.specs.Refusals.{number}
 use Rattle.wire.specs.Answers.{Answer, done, refused}
 use Rattle.wire.specs.declared.Refusal.{Refusal}
-use Rattle.epath_encode.specs.Limits.{maxSegments, mostBytes, maxPlace}
-use Rattle.epath_encode.specs.declared.Segment.{Segment}
+use Rattle.epath_sizes.specs.Limits.{maxSegments, mostBytes, maxPlace}
+use Rattle.epath_sizes.specs.declared.Segment.{Segment}
 use Rattle.epath.specs.declared.SegmentRead.{SegmentRead}
 use Rattle.epath.specs.declared.SegmentRead.the-variants.{Found, Refused}
-use Rattle.epath_encode.specs.declared.Slot.{Slot}
-use Rattle.epath_encode.specs.declared.Path.{Path}
-use Rattle.epath_encode.specs.Lists.{blank, blanks, pathOf}
+use Rattle.epath_sizes.specs.declared.Slot.{Slot}
+use Rattle.epath_sizes.specs.declared.Path.{Path}
+use Rattle.epath_sizes.specs.Lists.{blank, blanks, pathOf}
 use Rattle.epath.specs.Reads.{front, paperFront, readSeg, moved}
 use Rattle.epath.specs.Paths.{before, walk, PathFound, countOf, listOf, readPath, checkPath, Placed}
 

@@ -6,13 +6,13 @@ use mathlib.Core.Bool.{true, false}
 use lib.ListN.{length, drop}
 use lib.Dec.{ltb}
 use Rattle.wire.specs.Answers.{Answer, done, refused, paperCount}
-use Rattle.epath_encode.specs.Limits.{maxSegments, mostBytes}
-use Rattle.epath_encode.specs.Segments.{Seg}
-use Rattle.epath_encode.specs.Lists.{segs, pathOf}
+use Rattle.epath_sizes.specs.Limits.{maxSegments, mostBytes}
+use Rattle.epath_sizes.specs.Segments.{Seg}
+use Rattle.epath_sizes.specs.Lists.{segs, pathOf}
 use Rattle.epath.specs.Reads.{Front, front, readSeg, moved}
-use Rattle.epath_encode.specs.declared.Segment.{Segment}
-use Rattle.epath_encode.specs.declared.Slot.{Slot}
-use Rattle.epath_encode.specs.declared.Path.{Path}
+use Rattle.epath_sizes.specs.declared.Segment.{Segment}
+use Rattle.epath_sizes.specs.declared.Slot.{Slot}
+use Rattle.epath_sizes.specs.declared.Path.{Path}
 use Rattle.epath.specs.declared.PathRead.{PathRead}
 
 -- ---- the walk: the segments with their places in the whole input

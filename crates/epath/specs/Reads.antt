@@ -8,11 +8,11 @@ use lib.Dec.{ltb, eqb}
 use Rattle.wire.specs.Numbers.{valueOf}
 use Rattle.wire.specs.Refusals.{number}
 use Rattle.wire.specs.Answers.{Answer, done, refused, Rule, under, over, other, judged}
-use Rattle.epath_encode.specs.Limits.{maxLink, portEnd, nearPort, farPortCode, longLink, classCode, instanceCode, elementCode, attributeCode, symbolCode}
-use Rattle.epath_encode.specs.Segments.{Seg, farValue}
-use Rattle.epath_encode.specs.Lists.{meaning, shifted}
-use Rattle.epath_encode.specs.declared.Segment.{Segment}
-use Rattle.epath_encode.specs.declared.Segment.the-variants.{Symbol, Class, Instance, Attribute, Element, Port}
+use Rattle.epath_sizes.specs.Limits.{maxLink, portEnd, nearPort, farPortCode, longLink, classCode, instanceCode, elementCode, attributeCode, symbolCode}
+use Rattle.epath_sizes.specs.Segments.{Seg, farValue}
+use Rattle.epath_sizes.specs.Lists.{meaning, shifted}
+use Rattle.epath_sizes.specs.declared.Segment.{Segment}
+use Rattle.epath_sizes.specs.declared.Segment.the-variants.{Symbol, Class, Instance, Attribute, Element, Port}
 use Rattle.epath.specs.declared.SegmentRead.{SegmentRead}
 use Rattle.epath.specs.declared.SegmentRead.the-variants.{Found, Refused}
 use Rattle.epath.specs.declared.decode.Kind.{Kind}

@@ -1,12 +1,12 @@
 // The strict reader: bytes into segments. It accepts exactly what the writer makes. rseip-cip has none: it is added.
 use crate::PathRead;
 use crate::SegmentRead;
-use epath_encode::Path;
-use epath_encode::PortSegment;
-use epath_encode::Segment;
-use epath_encode::Slot;
-use epath_encode::SymbolSegment;
 use epath_lists::blank_path;
+use epath_sizes::Path;
+use epath_sizes::PortSegment;
+use epath_sizes::Segment;
+use epath_sizes::Slot;
+use epath_sizes::SymbolSegment;
 use wire::Counted;
 use wire::Refusal;
 use wire::byte_at;
@@ -18,9 +18,9 @@ ghost use Prim.Native.Nat.{_+_, _≤_, _<_};
 ghost use lib.ListN.{length, getD};
 ghost use Rattle.wire.specs.Answers.{refused, paperCount};
 ghost use Rattle.wire.specs.Refusals.{number};
-ghost use Rattle.epath_encode.specs.Limits.{maxPlace};
-ghost use Rattle.epath_encode.specs.Segments.{farValue};
-ghost use Rattle.epath_encode.specs.Lists.{pathOf, startOf, shifted};
+ghost use Rattle.epath_sizes.specs.Limits.{maxPlace};
+ghost use Rattle.epath_sizes.specs.Segments.{farValue};
+ghost use Rattle.epath_sizes.specs.Lists.{pathOf, startOf, shifted};
 ghost use Rattle.epath.specs.Reads.{paperFront, formOf, made, readNarrow, readWide, readPart, readLink, readPortNumber, readPort, readSymbol, readSeg};
 ghost use Rattle.epath.specs.Paths.{Placed, checkPath, paperPath, readPath};
 
@@ -45,37 +45,37 @@ enum Form {
 fn form_of(b: u8) -> Form
     ensures { λ r. ⌜ r ≡ formOf b ⌝ }
 {
-    if b < epath_encode::PORT_END {
+    if b < epath_sizes::PORT_END {
         return Form::Port;
     }
-    if b == epath_encode::SYMBOL {
+    if b == epath_sizes::SYMBOL {
         return Form::Symbol;
     }
-    if b == epath_encode::CLASS {
+    if b == epath_sizes::CLASS {
         return Form::Narrow(Kind::Class);
     }
-    if b == epath_encode::CLASS + 1 {
+    if b == epath_sizes::CLASS + 1 {
         return Form::Wide(Kind::Class);
     }
-    if b == epath_encode::INSTANCE {
+    if b == epath_sizes::INSTANCE {
         return Form::Narrow(Kind::Instance);
     }
-    if b == epath_encode::INSTANCE + 1 {
+    if b == epath_sizes::INSTANCE + 1 {
         return Form::Wide(Kind::Instance);
     }
-    if b == epath_encode::ATTRIBUTE {
+    if b == epath_sizes::ATTRIBUTE {
         return Form::Narrow(Kind::Attribute);
     }
-    if b == epath_encode::ATTRIBUTE + 1 {
+    if b == epath_sizes::ATTRIBUTE + 1 {
         return Form::Wide(Kind::Attribute);
     }
-    if b == epath_encode::ELEMENT {
+    if b == epath_sizes::ELEMENT {
         return Form::Narrow(Kind::Element);
     }
-    if b == epath_encode::ELEMENT + 1 {
+    if b == epath_sizes::ELEMENT + 1 {
         return Form::Wide(Kind::Element);
     }
-    if b == epath_encode::ELEMENT + 2 {
+    if b == epath_sizes::ELEMENT + 2 {
         return Form::Widest;
     }
     Form::Unknown
@@ -210,14 +210,14 @@ fn read_port_number(t: &[u8], low: u8, at: usize, len: u8) -> SegmentRead
     requires { ⌜ at ≤ 2 ⌝ }
     ensures { λ r. ⌜ paperFront r ≡ readPortNumber low at len (now (t .entry)) ⌝ }
 {
-    if low < epath_encode::FAR_PORT {
+    if low < epath_sizes::FAR_PORT {
         return read_link(t, low as u16, at, len);
     }
     if t.len() < at + 2 {
         return SegmentRead::Refused(Refusal::Short);
     }
     let port = far_port_at(t, at);
-    if port <= epath_encode::NEAR_PORT {
+    if port <= epath_sizes::NEAR_PORT {
         return SegmentRead::Refused(Refusal::Form);
     }
     read_link(t, port, at + 2, len)
@@ -227,8 +227,8 @@ fn read_port_number(t: &[u8], low: u8, at: usize, len: u8) -> SegmentRead
 fn read_port(t: &[u8], b: u8) -> SegmentRead
     ensures { λ r. ⌜ paperFront r ≡ readPort b (now (t .entry)) ⌝ }
 {
-    let low = b % epath_encode::LONG_LINK;
-    if b < epath_encode::LONG_LINK {
+    let low = b % epath_sizes::LONG_LINK;
+    if b < epath_sizes::LONG_LINK {
         return read_port_number(t, low, 1, 1);
     }
     if t.len() < 2 {
@@ -238,7 +238,7 @@ fn read_port(t: &[u8], b: u8) -> SegmentRead
     if len < 2 {
         return SegmentRead::Refused(Refusal::Form);
     }
-    if epath_encode::MAX_LINK < len as usize {
+    if epath_sizes::MAX_LINK < len as usize {
         return SegmentRead::Refused(Refusal::Limit);
     }
     read_port_number(t, low, 2, len)
@@ -305,7 +305,7 @@ pub fn check_path(s: &[u8]) -> Counted
     let mut seen: usize = 0;
     let mut at: usize = 0;
     while at < s.len() {
-        if seen == epath_encode::MAX_SEGMENTS {
+        if seen == epath_sizes::MAX_SEGMENTS {
             return Counted::Refused(Refusal::Limit);
         }
         match segment_at(s, at) {
@@ -339,11 +339,11 @@ pub fn read_path(s: &[u8]) -> PathRead
     let blank = Slot {
         segment: Segment::Class(0),
     };
-    let mut slots = [blank; epath_encode::MAX_SEGMENTS];
+    let mut slots = [blank; epath_sizes::MAX_SEGMENTS];
     let mut count: usize = 0;
     let mut place: usize = 0;
     while place < s.len() {
-        if count == epath_encode::MAX_SEGMENTS {
+        if count == epath_sizes::MAX_SEGMENTS {
             return no_path(Refusal::Limit);
         }
         match segment_at(s, place) {

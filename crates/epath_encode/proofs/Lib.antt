@@ -1,6 +1,4 @@
-pub mod Forms
-pub mod SizeLaws
 pub mod WriteLaws
-pub mod PathLaws
+pub mod FileLaws
 pub mod Theorems
 pub mod Exact

@@ -1,9 +1,8 @@
--- What a user may rely on of written paths, said of what the functions answer and leave: even length, joining. Assumes nothing.
-use Prim.Native.Nat.{ℕ, zero, suc, _+_, _%_, _≤_}
+-- What a user may rely on of written paths, said of what the functions answer and leave: the front, joining. Assumes nothing.
+use Prim.Native.Nat.{ℕ, _+_, _≤_}
 use mathlib.Core.Path.{_≡_, refl, ap, _∙_}
 use mathlib.Core.List.{List, [], _∷_, _++_}
-use native.Mathlib.Omega.{arith}
-use lib.ListN.{length, take, drop, length-append}
+use lib.ListN.{length, take, drop}
 use lib.Seq.{take-append-seam}
 use Rattle.wire.specs.Parts.{overlay}
 use Rattle.wire.specs.Answers.{Answer, done, over, withRoom, written}
@@ -11,43 +10,13 @@ use Rattle.wire.specs.Folds.{sizes}
 use Rattle.wire.proofs.Rules.{all-keep}
 use Rattle.wire.proofs.Answers.{room-kept, room-was}
 use Rattle.wire.proofs.Folds.{sizes-append, joined-append}
-use Rattle.epath_encode.specs.Limits.{maxSegments, symbolCode, classCode, instanceCode, attributeCode, elementCode}
-use Rattle.epath_encode.specs.Segments.{Seg, symbol, class, instance, attribute, element, port, logical, padOf, padded, portHead, encodeSeg, encode}
-use Rattle.epath_encode.specs.Lists.{meaning, slotsOf, segs, segsOf}
-use Rattle.epath_encode.specs.Writes.{pathSize}
-use Rattle.epath_encode.specs.declared.Slot.{Slot}
-use Rattle.epath_encode.specs.declared.Path.{Path}
-use Rattle.epath_encode.proofs.Forms.{logical-each}
-use Rattle.epath_encode.proofs.SizeLaws.{length-padded}
-use Rattle.epath_encode.proofs.PathLaws.{sizeIn, PathSized, path-sized}
-
--- ---- every encoding has even length
-
-pad-evens : (n r : ℕ) → n % 2 ≡ r → (n + length (padOf r)) % 2 ≡ 0
-pad-evens n zero h = omega arith
-pad-evens n (suc r) h = omega arith
-
-padded-evens : (xs : List ℕ) → length (padded xs) % 2 ≡ 0
-padded-evens xs = ap (λ (k : ℕ). k % 2) (length-padded xs) ∙ pad-evens (length xs) (length xs % 2) refl
-
-logical-even : (code v : ℕ) → length (logical code v) % 2 ≡ 0
-logical-even code v = logical-each code v (λ l. length l % 2 ≡ 0) refl refl refl
-
-pub segment-even : (x : Seg) → length (encodeSeg x) % 2 ≡ 0
-segment-even (symbol bs) = padded-evens (symbolCode ∷ length bs ∷ bs)
-segment-even (class v) = logical-even classCode v
-segment-even (instance v) = logical-even instanceCode v
-segment-even (attribute v) = logical-even attributeCode v
-segment-even (element v) = logical-even elementCode v
-segment-even (port p link) = padded-evens (portHead p (length link) ++ link)
-
-pub path-even : (xs : List Seg) → length (encode xs) % 2 ≡ 0
-path-even [] = refl
-path-even (x ∷ xs) = omega (arith, length-append (encodeSeg x) (encode xs), segment-even x, path-even xs)
-
--- so is every size that is answered
-pub size-even : (pool : List ℕ) (p : Path) (n : ℕ) → pathSize pool p ≡ done n → n % 2 ≡ 0
-size-even pool p n h = ap (λ (k : ℕ). k % 2) (path-sized pool p n h .size) ∙ path-even (segsOf pool p)
+use Rattle.epath_sizes.specs.Limits.{maxSegments}
+use Rattle.epath_sizes.specs.Segments.{Seg, encodeSeg, encode}
+use Rattle.epath_sizes.specs.Lists.{meaning, slotsOf, segs, segsOf}
+use Rattle.epath_sizes.specs.Sizes.{pathSize}
+use Rattle.epath_sizes.specs.declared.Slot.{Slot}
+use Rattle.epath_sizes.specs.declared.Path.{Path}
+use Rattle.epath_sizes.proofs.PathLaws.{sizeIn, PathSized, path-sized}
 
 -- ---- what write_path answers and leaves
 

@@ -15,16 +15,17 @@ use Rattle.wire.specs.Answers.{paperSize, Put}
 use Rattle.wire.specs.declared.Wrote.{Wrote}
 use Rattle.wire.specs.declared.Wrote.the-variants.{Size}
 use Rattle.wire.proofs.Stores.{sets-append, part-length}
-use Rattle.epath_encode.specs.Limits.{maxSymbol, maxLink, nearPort, farPortCode, longLink, classCode, instanceCode, attributeCode, elementCode, symbolCode}
-use Rattle.epath_encode.specs.Segments.{symbol, port, logical, pad, padded, farPort, portHead, encodeSeg}
-use Rattle.epath_encode.specs.Lists.{meaning}
-use Rattle.epath_encode.specs.Writes.{segmentSize, Good, PutAt}
-use Rattle.epath_encode.specs.declared.Segment.{Segment}
-use Rattle.epath_encode.specs.declared.Segment.the-variants.{Symbol, Class, Instance, Attribute, Element, Port}
-use Rattle.epath_encode.specs.declared.PortSegment.{PortSegment}
-use Rattle.epath_encode.specs.declared.SymbolSegment.{SymbolSegment}
-use Rattle.epath_encode.proofs.Forms.{head-short, head-long, head-escaped, head-both}
-use Rattle.epath_encode.proofs.SizeLaws.{head-most, keeps-inside, sized}
+use Rattle.epath_sizes.specs.Limits.{maxSymbol, maxLink, nearPort, farPortCode, longLink, classCode, instanceCode, attributeCode, elementCode, symbolCode}
+use Rattle.epath_sizes.specs.Segments.{symbol, port, logical, pad, padded, farPort, portHead, encodeSeg}
+use Rattle.epath_sizes.specs.Lists.{meaning}
+use Rattle.epath_sizes.specs.Sizes.{segmentSize, Good}
+use Rattle.epath_encode.specs.Writes.{PutAt}
+use Rattle.epath_sizes.specs.declared.Segment.{Segment}
+use Rattle.epath_sizes.specs.declared.Segment.the-variants.{Symbol, Class, Instance, Attribute, Element, Port}
+use Rattle.epath_sizes.specs.declared.PortSegment.{PortSegment}
+use Rattle.epath_sizes.specs.declared.SymbolSegment.{SymbolSegment}
+use Rattle.epath_sizes.proofs.Forms.{head-short, head-long, head-escaped, head-both}
+use Rattle.epath_sizes.proofs.SizeLaws.{head-most, keeps-inside, sized}
 
 -- what is stored is the bytes, whatever they are called
 put-is : {bytes called old new : List ℕ} {n : ℕ} → bytes ≡ called → n ≡ length bytes → new ≡ sets old 0 bytes → Put called old n new

@@ -1,4 +1,1 @@
-pub mod Limits
-pub mod Segments
-pub mod Lists
 pub mod Writes

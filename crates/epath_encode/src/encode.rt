@@ -1,8 +1,8 @@
-// Sizes, and the writer: segments into bytes. Beside it in rseip-cip: src/codec/encode/epath.rs.
-use crate::Path;
-use crate::PortSegment;
-use crate::Segment;
-use crate::SymbolSegment;
+// The writer: segments into bytes. Beside it in rseip-cip: src/codec/encode/epath.rs.
+use epath_sizes::Path;
+use epath_sizes::Segment;
+use epath_sizes::path_size;
+use epath_sizes::segment_size;
 use wire::Refusal;
 use wire::Wrote;
 use wire::part_of;
@@ -12,140 +12,15 @@ use wire::put_u16;
 use wire::put_u32;
 ghost use mathlib.Core.Path.{_≡_};
 ghost use mathlib.Core.List.{_++_};
-ghost use Prim.Native.Nat.{_+_, _≤_, _<_};
+ghost use Prim.Native.Nat.{_+_, _≤_};
 ghost use lib.ListN.{length};
 ghost use lib.Seq.{sets};
-ghost use Rattle.wire.specs.Answers.{paperSize, done, judged, withRoom, written, Put};
-ghost use Rattle.epath_encode.specs.Limits.{maxSegments, maxSymbol, maxLink, classCode, instanceCode, attributeCode, elementCode};
-ghost use Rattle.epath_encode.specs.Segments.{Seg, logical, portHead, pad, encodeSeg, encode, farPort};
-ghost use Rattle.epath_encode.specs.Lists.{meaning, segsOf};
-ghost use Rattle.epath_encode.specs.Writes.{partRules, segmentSize, pathSize, Good, AllGood, PutAt};
-
-// ---- sizes
-
-// How many bytes a logical segment with this value takes, whatever its code.
-fn logical_size(v: u32) -> usize
-    ensures { λ r. ⌜ r ≡ length (logical 0 v) ⌝ }
-{
-    if v <= 255 {
-        return 2;
-    }
-    if v <= 65535 {
-        return 4;
-    }
-    6
-}
-
-// Whether a part of a pool of n bytes lies inside it (11) and has at most limit bytes (3).
-fn judge_part(limit: usize, n: usize, start: usize, len: usize) -> Wrote
-    ensures { λ r. ⌜ paperSize r ≡ judged (partRules limit n start len) (done len) ⌝ }
-{
-    if n < start {
-        return Wrote::Refused(Refusal::Outside);
-    }
-    if n - start < len {
-        return Wrote::Refused(Refusal::Outside);
-    }
-    if limit < len {
-        return Wrote::Refused(Refusal::Limit);
-    }
-    Wrote::Size(len)
-}
-
-// The next even number.
-fn even(n: usize) -> usize
-    requires { ⌜ n < 1000 ⌝ }
-    ensures { λ r. ⌜ r ≡ n + length (pad n) ⌝ }
-{
-    if n % 2 == 0 {
-        return n;
-    }
-    n + 1
-}
-
-fn symbol_size(y: SymbolSegment, pool: &[u8]) -> Wrote
-    ensures { λ r. ⌜ paperSize r ≡ segmentSize (now (pool .entry)) (Segment.Symbol y) ⌝ }
-{
-    match judge_part(
-        crate::MAX_SYMBOL,
-        pool.len(),
-        y.start as usize,
-        y.len as usize,
-    ) {
-        Wrote::Refused(e) => Wrote::Refused(e),
-        Wrote::Size(n) => Wrote::Size(even(2 + n)),
-    }
-}
-
-// How many bytes stand before a link of len bytes.
-fn head_size(port: u16, len: usize) -> usize
-    ensures { λ r. ⌜ r ≡ length (portHead port len) ⌝ }
-{
-    if port <= crate::NEAR_PORT {
-        if len <= 1 {
-            return 1;
-        }
-        return 2;
-    }
-    if len <= 1 {
-        return 3;
-    }
-    4
-}
-
-fn port_size(q: PortSegment, pool: &[u8]) -> Wrote
-    ensures { λ r. ⌜ paperSize r ≡ segmentSize (now (pool .entry)) (Segment.Port q) ⌝ }
-{
-    match judge_part(
-        crate::MAX_LINK,
-        pool.len(),
-        q.start as usize,
-        q.len as usize,
-    ) {
-        Wrote::Refused(e) => Wrote::Refused(e),
-        Wrote::Size(n) => Wrote::Size(even(head_size(q.port, n) + n)),
-    }
-}
-
-// A segment's refusal, or how many bytes it takes.
-pub fn segment_size(s: Segment, pool: &[u8]) -> Wrote
-    ensures { λ r. ⌜ paperSize r ≡ segmentSize (now (pool .entry)) s ⌝ }
-{
-    match s {
-        Segment::Symbol(y) => symbol_size(y, pool),
-        Segment::Class(v) => Wrote::Size(logical_size(v as u32)),
-        Segment::Instance(v) => Wrote::Size(logical_size(v as u32)),
-        Segment::Attribute(v) => Wrote::Size(logical_size(v as u32)),
-        Segment::Element(v) => Wrote::Size(logical_size(v)),
-        Segment::Port(q) => port_size(q, pool),
-    }
-}
-
-// A list's first refusal, or how many bytes it takes.
-pub fn path_size(p: Path, pool: &[u8]) -> Wrote
-    ensures { λ r. ⌜ paperSize r ≡ pathSize (now (pool .entry)) p ⌝ }
-{
-    let count = p.count;
-    if crate::MAX_SEGMENTS < count {
-        return Wrote::Refused(Refusal::Limit);
-    }
-    let mut total: usize = 0;
-    let mut i: usize = 0;
-    while i < count {
-        let slot = p.slots[i];
-        let segment = slot.segment;
-        match segment_size(segment, pool) {
-            Wrote::Size(n) => {
-                total += n;
-            }
-            Wrote::Refused(e) => {
-                return Wrote::Refused(e);
-            }
-        }
-        i += 1;
-    }
-    Wrote::Size(total)
-}
+ghost use Rattle.wire.specs.Answers.{paperSize, withRoom, written, Put};
+ghost use Rattle.epath_sizes.specs.Limits.{maxSegments, maxSymbol, maxLink, classCode, instanceCode, attributeCode, elementCode};
+ghost use Rattle.epath_sizes.specs.Segments.{Seg, logical, portHead, pad, encodeSeg, encode, farPort};
+ghost use Rattle.epath_sizes.specs.Lists.{meaning, segsOf};
+ghost use Rattle.epath_sizes.specs.Sizes.{segmentSize, pathSize, Good, AllGood};
+ghost use Rattle.epath_encode.specs.Writes.{PutAt};
 
 // ---- the writer's parts: each stores at the front of out, and says how many bytes
 
@@ -153,11 +28,11 @@ fn encode_class(v: u16, out: &mut [u8]) -> usize
     ensures { λ r. ⌜ Put (logical classCode v) (now (out .entry)) r (now (out .exit)) ⌝ }
 {
     if v <= 255 {
-        put_byte(out, 0, crate::CLASS);
+        put_byte(out, 0, epath_sizes::CLASS);
         put_byte(out, 1, v as u8);
         return 2;
     }
-    put_byte(out, 0, crate::CLASS + 1);
+    put_byte(out, 0, epath_sizes::CLASS + 1);
     put_byte(out, 1, 0);
     put_u16(out, 2, v);
     4
@@ -167,11 +42,11 @@ fn encode_instance(v: u16, out: &mut [u8]) -> usize
     ensures { λ r. ⌜ Put (logical instanceCode v) (now (out .entry)) r (now (out .exit)) ⌝ }
 {
     if v <= 255 {
-        put_byte(out, 0, crate::INSTANCE);
+        put_byte(out, 0, epath_sizes::INSTANCE);
         put_byte(out, 1, v as u8);
         return 2;
     }
-    put_byte(out, 0, crate::INSTANCE + 1);
+    put_byte(out, 0, epath_sizes::INSTANCE + 1);
     put_byte(out, 1, 0);
     put_u16(out, 2, v);
     4
@@ -181,11 +56,11 @@ fn encode_attribute(v: u16, out: &mut [u8]) -> usize
     ensures { λ r. ⌜ Put (logical attributeCode v) (now (out .entry)) r (now (out .exit)) ⌝ }
 {
     if v <= 255 {
-        put_byte(out, 0, crate::ATTRIBUTE);
+        put_byte(out, 0, epath_sizes::ATTRIBUTE);
         put_byte(out, 1, v as u8);
         return 2;
     }
-    put_byte(out, 0, crate::ATTRIBUTE + 1);
+    put_byte(out, 0, epath_sizes::ATTRIBUTE + 1);
     put_byte(out, 1, 0);
     put_u16(out, 2, v);
     4
@@ -195,17 +70,17 @@ fn encode_element(v: u32, out: &mut [u8]) -> usize
     ensures { λ r. ⌜ Put (logical elementCode v) (now (out .entry)) r (now (out .exit)) ⌝ }
 {
     if v <= 255 {
-        put_byte(out, 0, crate::ELEMENT);
+        put_byte(out, 0, epath_sizes::ELEMENT);
         put_byte(out, 1, v as u8);
         return 2;
     }
     if v <= 65535 {
-        put_byte(out, 0, crate::ELEMENT + 1);
+        put_byte(out, 0, epath_sizes::ELEMENT + 1);
         put_byte(out, 1, 0);
         put_u16(out, 2, v as u16);
         return 4;
     }
-    put_byte(out, 0, crate::ELEMENT + 2);
+    put_byte(out, 0, epath_sizes::ELEMENT + 2);
     put_byte(out, 1, 0);
     put_u32(out, 2, v);
     6
@@ -229,7 +104,7 @@ fn encode_symbol(symbol: &[u8], out: &mut [u8]) -> usize
     requires { ⌜ length (now symbol) ≤ maxSymbol ⌝ }
     ensures { λ r. ⌜ Put (encodeSeg (Seg.symbol (now (symbol .entry)))) (now (out .entry)) r (now (out .exit)) ⌝ }
 {
-    put_byte(out, 0, crate::SYMBOL);
+    put_byte(out, 0, epath_sizes::SYMBOL);
     put_byte(out, 1, symbol.len() as u8);
     put_padded(out, 2, symbol)
 }
@@ -247,21 +122,21 @@ fn put_far_port(out: &mut [u8], at: usize, port: u16)
 fn put_head(port: u16, len: u8, out: &mut [u8]) -> usize
     ensures { λ r. ⌜ Put (portHead port len) (now (out .entry)) r (now (out .exit)) ⌝ }
 {
-    if port <= crate::NEAR_PORT {
+    if port <= epath_sizes::NEAR_PORT {
         if len <= 1 {
             put_byte(out, 0, port as u8);
             return 1;
         }
-        put_byte(out, 0, port as u8 + crate::LONG_LINK);
+        put_byte(out, 0, port as u8 + epath_sizes::LONG_LINK);
         put_byte(out, 1, len);
         return 2;
     }
     if len <= 1 {
-        put_byte(out, 0, crate::FAR_PORT);
+        put_byte(out, 0, epath_sizes::FAR_PORT);
         put_far_port(out, 1, port);
         return 3;
     }
-    put_byte(out, 0, crate::FAR_PORT + crate::LONG_LINK);
+    put_byte(out, 0, epath_sizes::FAR_PORT + epath_sizes::LONG_LINK);
     put_byte(out, 1, len);
     put_far_port(out, 2, port);
     4

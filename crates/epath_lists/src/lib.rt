@@ -1,11 +1,11 @@
 // The values of src/epath.rs in rseip-cip: the list that holds nothing, the default port, and whether a segment is a port.
-use epath_encode::Path;
-use epath_encode::PortSegment;
-use epath_encode::Segment;
-use epath_encode::Slot;
+use epath_sizes::Path;
+use epath_sizes::PortSegment;
+use epath_sizes::Segment;
+use epath_sizes::Slot;
 ghost use mathlib.Core.Path.{_≡_};
 ghost use mathlib.Core.List.{[]};
-ghost use Rattle.epath_encode.specs.Lists.{pathOf, backplane, isPort};
+ghost use Rattle.epath_sizes.specs.Lists.{pathOf, backplane, isPort};
 
 // The list that holds nothing.
 pub fn blank_path() -> Path
@@ -15,7 +15,7 @@ pub fn blank_path() -> Path
         segment: Segment::Class(0),
     };
     Path {
-        slots: [blank; epath_encode::MAX_SEGMENTS],
+        slots: [blank; epath_sizes::MAX_SEGMENTS],
         count: 0,
     }
 }

@@ -16,10 +16,10 @@ use Rattle.wire.specs.declared.Wrote.the-variants.{Size, Refused}
 use Rattle.wire.proofs.Rules.{all-were, then-stops, then-goes, Went, then-were}
 use Rattle.wire.proofs.Records.{laid-length, laid-size}
 use Rattle.connection_words.proofs.Lengths.{close-length, open-length}
-use Rattle.epath_encode.specs.Segments.{encode}
-use Rattle.epath_encode.specs.Lists.{segsOf}
-use Rattle.epath_encode.specs.declared.Path.{Path}
-use Rattle.epath_encode.proofs.PathLaws.{path-sized}
+use Rattle.epath_sizes.specs.Segments.{encode}
+use Rattle.epath_sizes.specs.Lists.{segsOf}
+use Rattle.epath_sizes.specs.declared.Path.{Path}
+use Rattle.epath_sizes.proofs.PathLaws.{path-sized}
 use Rattle.connection.specs.Limits.{maxPath, sizeLimit}
 use Rattle.connection.specs.declared.ConnectionParameters.{ConnectionParameters}
 use Rattle.connection.specs.declared.OpenOptions.{OpenOptions}

@@ -16,12 +16,12 @@ use Rattle.wire.proofs.Rules.{never}
 use Rattle.wire.proofs.Stores.{sets-append, sets-ahead}
 use Rattle.wire.proofs.Folds.{joined-append}
 use Rattle.wire.proofs.Records.{laid-length, laid-more}
-use Rattle.epath_encode.specs.Segments.{encode}
-use Rattle.epath_encode.specs.Limits.{maxSegments}
-use Rattle.epath_encode.specs.Lists.{blank, pathOf, backplane, segsOf}
-use Rattle.epath_encode.specs.declared.Segment.the-variants.{Class, Instance, Port}
-use Rattle.epath_encode.specs.declared.PortSegment.{PortSegment}
-use Rattle.epath_encode.specs.declared.Path.{Path}
+use Rattle.epath_sizes.specs.Segments.{encode}
+use Rattle.epath_sizes.specs.Limits.{maxSegments}
+use Rattle.epath_sizes.specs.Lists.{blank, pathOf, backplane, segsOf}
+use Rattle.epath_sizes.specs.declared.Segment.the-variants.{Class, Instance, Port}
+use Rattle.epath_sizes.specs.declared.PortSegment.{PortSegment}
+use Rattle.epath_sizes.specs.declared.Path.{Path}
 use Rattle.connection.specs.Limits.{sizeLimit}
 use Rattle.connection_words.proofs.FieldLaws.{flags-most}
 use Rattle.connection_words.specs.Fields.{unit, flagsOf, wordOf, parameterWord, paperWord, classTrigger}

@@ -5,10 +5,10 @@ use mathlib.Core.Path.{_≡_}
 use mathlib.Core.List.{List, [], _∷_}
 use mathlib.Core.Bool.{Bool, true, false}
 use Rattle.wire.specs.Answers.{Answer, done, andThen}
-use Rattle.epath_encode.specs.Lists.{backplane}
-use Rattle.epath_encode.specs.declared.Segment.the-variants.{Class, Instance, Port}
-use Rattle.epath_encode.specs.declared.Slot.{Slot}
-use Rattle.epath_encode.specs.declared.Path.{Path}
+use Rattle.epath_sizes.specs.Lists.{backplane}
+use Rattle.epath_sizes.specs.declared.Segment.the-variants.{Class, Instance, Port}
+use Rattle.epath_sizes.specs.declared.Slot.{Slot}
+use Rattle.epath_sizes.specs.declared.Path.{Path}
 use Rattle.connection.specs.declared.OpenOptions.{OpenOptions}
 use Rattle.connection_words.specs.Fields.{wordOf, parameterWord}
 use Rattle.route.specs.Routes.{routeSize}

@@ -13,10 +13,10 @@ use Rattle.wire.specs.declared.Wrote.{Wrote}
 use Rattle.wire.specs.declared.Wrote.the-variants.{Size, Refused}
 use Rattle.wire.proofs.Rules.{rules, all-were}
 use Rattle.connection_words.proofs.Lengths.{message-length, send-length}
-use Rattle.epath_encode.specs.Segments.{encode}
-use Rattle.epath_encode.specs.Lists.{segsOf}
-use Rattle.epath_encode.specs.declared.Path.{Path}
-use Rattle.epath_encode.proofs.PathLaws.{path-sized}
+use Rattle.epath_sizes.specs.Segments.{encode}
+use Rattle.epath_sizes.specs.Lists.{segsOf}
+use Rattle.epath_sizes.specs.declared.Path.{Path}
+use Rattle.epath_sizes.proofs.PathLaws.{path-sized}
 use Rattle.connection.specs.Limits.{maxPath, maxRecord}
 use Rattle.connection.specs.declared.UnconnectedSend.{UnconnectedSend}
 use Rattle.connection_words.specs.Requests.{messageBytes, sendBytes}

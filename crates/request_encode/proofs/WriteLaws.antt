@@ -10,9 +10,9 @@ use Rattle.wire.specs.Records.{laid}
 use Rattle.wire.proofs.Stores.{sets-append, sets-ahead}
 use Rattle.wire.proofs.Numbers.{low-length}
 use Rattle.wire.proofs.Records.{laid-length}
-use Rattle.epath_encode.specs.Segments.{encode}
-use Rattle.epath_encode.specs.Lists.{segsOf}
-use Rattle.epath_encode.specs.declared.Path.{Path}
+use Rattle.epath_sizes.specs.Segments.{encode}
+use Rattle.epath_sizes.specs.Lists.{segsOf}
+use Rattle.epath_sizes.specs.declared.Path.{Path}
 use Rattle.connection_words.specs.Requests.{messageBytes, sendHead, sendRest, sendBytes}
 use Rattle.connection.specs.declared.UnconnectedSend.{UnconnectedSend}
 use Rattle.route.specs.Routes.{Routed}

@@ -3,7 +3,7 @@
 use Prim.Native.Nat.{ℕ, _+_, _%_}
 use mathlib.Core.List.{List, [], _∷_}
 use Rattle.wire.specs.Answers.{Answer, done, over, judged, andThen}
-use Rattle.epath_encode.specs.declared.Path.{Path}
+use Rattle.epath_sizes.specs.declared.Path.{Path}
 use Rattle.connection.specs.Limits.{maxRecord}
 use Rattle.route.specs.Routes.{routeSize}
 

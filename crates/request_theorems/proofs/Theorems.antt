@@ -9,10 +9,10 @@ use Rattle.wire.specs.Numbers.{Bytes}
 use Rattle.wire.specs.Parts.{part}
 use Rattle.wire.specs.Answers.{Answer, done, refused}
 use Rattle.wire.proofs.Rules.{never}
-use Rattle.epath_encode.specs.Limits.{maxSegments}
-use Rattle.epath_encode.specs.Segments.{Seg, encode, AllFine, norm}
-use Rattle.epath_encode.specs.declared.Slot.{Slot}
-use Rattle.epath_encode.proofs.Theorems.{path-even}
+use Rattle.epath_sizes.specs.Limits.{maxSegments}
+use Rattle.epath_sizes.specs.Segments.{Seg, encode, AllFine, norm}
+use Rattle.epath_sizes.specs.declared.Slot.{Slot}
+use Rattle.epath_sizes.proofs.Even.{path-even}
 use Rattle.epath.specs.Paths.{walk, countOf, checkPath, sees, parsePath}
 use Rattle.epath.proofs.RoundTrip.{Written, read-of-written, written-of-read}
 use Rattle.epath.proofs.Theorems.{Checked, checked}

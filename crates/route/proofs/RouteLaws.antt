@@ -15,12 +15,12 @@ use Rattle.wire.specs.declared.Wrote.the-variants.{Size, Refused}
 use Rattle.wire.proofs.Rules.{rules, never, all-were, then-stops, then-goes, Went, then-were}
 use Rattle.wire.proofs.Answers.{room-kept}
 use Rattle.wire.proofs.Stores.{length-lent, sets-lent, sets-overlay}
-use Rattle.epath_encode.specs.Segments.{encode}
-use Rattle.epath_encode.specs.Lists.{segsOf}
-use Rattle.epath_encode.specs.Writes.{pathSize}
-use Rattle.epath_encode.specs.declared.Path.{Path}
-use Rattle.epath_encode.proofs.PathLaws.{PathSized, path-sized}
-use Rattle.epath_encode.proofs.Theorems.{size-even}
+use Rattle.epath_sizes.specs.Segments.{encode}
+use Rattle.epath_sizes.specs.Lists.{segsOf}
+use Rattle.epath_sizes.specs.Sizes.{pathSize}
+use Rattle.epath_sizes.specs.declared.Path.{Path}
+use Rattle.epath_sizes.proofs.PathLaws.{PathSized, path-sized}
+use Rattle.epath_sizes.proofs.Even.{size-even}
 use Rattle.connection.specs.Limits.{maxPath}
 use Rattle.route.specs.Routes.{routeSize, Ready, Routed}
 

@@ -5,10 +5,10 @@ use mathlib.Core.List.{List, [], _∷_}
 use lib.ListN.{length}
 use lib.Seq.{sets}
 use Rattle.wire.specs.Answers.{Answer, done, over, judged, andThen}
-use Rattle.epath_encode.specs.Segments.{encode}
-use Rattle.epath_encode.specs.Lists.{segsOf}
-use Rattle.epath_encode.specs.Writes.{pathSize}
-use Rattle.epath_encode.specs.declared.Path.{Path}
+use Rattle.epath_sizes.specs.Segments.{encode}
+use Rattle.epath_sizes.specs.Lists.{segsOf}
+use Rattle.epath_sizes.specs.Sizes.{pathSize}
+use Rattle.epath_sizes.specs.declared.Path.{Path}
 use Rattle.connection.specs.Limits.{maxPath}
 
 -- the path's own refusal, then its limit

@@ -1,13 +1,13 @@
 -- `epath::decode::check_path` meets its contract. Assumes nothing.
 --: use Rattle.epath.proofs.Walks.{Counting, counting-laws}
 --: use Prim.Native.Nat.{_-_}
---: use Rattle.epath_encode.specs.Limits.{maxSegments}
+--: use Rattle.epath_sizes.specs.Limits.{maxSegments}
 --: Inv-loop = Counting s seen at
 --: μ-loop = maxSegments - seen
 --: * = search (counting-laws, needs) fits 5000
 use Rattle.epath.proofs.Walks.{Counting, counting-laws}
 use Prim.Native.Nat.{_-_}
-use Rattle.epath_encode.specs.Limits.{maxSegments}
+use Rattle.epath_sizes.specs.Limits.{maxSegments}
 use Rattle.epath.proofs.decode.check_path.Statement.{statement}
 use borrow.Author.Needs.{needs}
 use Rattle.epath.proofs.decode.check_path.Tie as tie

@@ -1,13 +1,13 @@
 -- `epath::decode::read_path` meets its contract. Assumes nothing.
 --: use Rattle.epath.proofs.Walks.{Filling, filling-laws}
 --: use Prim.Native.Nat.{_-_}
---: use Rattle.epath_encode.specs.Limits.{maxSegments}
+--: use Rattle.epath_sizes.specs.Limits.{maxSegments}
 --: Inv-loop = Filling s slots count place
 --: μ-loop = maxSegments - count
 --: * = search (filling-laws, needs) fits 5000
 use Rattle.epath.proofs.Walks.{Filling, filling-laws}
 use Prim.Native.Nat.{_-_}
-use Rattle.epath_encode.specs.Limits.{maxSegments}
+use Rattle.epath_sizes.specs.Limits.{maxSegments}
 use Rattle.epath.proofs.decode.read_path.Statement.{statement}
 use borrow.Author.Needs.{needs}
 use Rattle.epath.proofs.decode.read_path.Tie as tie

@@ -2,8 +2,8 @@
 --: use Prim.Native.Nat.{_-_}
 --: use mathlib.Core.Path.{_≡_}
 --: use lib.ListN.{length, length-map}
---: use Rattle.epath_encode.specs.Limits.{maxSegments}
---: use Rattle.epath_encode.proofs.PathLaws.{Filing, filing-laws}
+--: use Rattle.epath_sizes.specs.Limits.{maxSegments}
+--: use Rattle.epath_encode.proofs.FileLaws.{Filing, filing-laws}
 --: Inv-loop = Filing pool p out₀ out at k
 --: μ-loop = count - k
 --: + full : (c : tie.Start Inv-loop μ-loop) → length (c .args .t1 .slots) ≡ maxSegments
@@ -12,8 +12,8 @@
 use Prim.Native.Nat.{_-_}
 use mathlib.Core.Path.{_≡_}
 use lib.ListN.{length, length-map}
-use Rattle.epath_encode.specs.Limits.{maxSegments}
-use Rattle.epath_encode.proofs.PathLaws.{Filing, filing-laws}
+use Rattle.epath_sizes.specs.Limits.{maxSegments}
+use Rattle.epath_encode.proofs.FileLaws.{Filing, filing-laws}
 use Rattle.epath_encode.proofs.encode.encode_path.Statement.{statement}
 use borrow.Author.Needs.{needs}
 use Rattle.epath_encode.proofs.encode.encode_path.Tie as tie
