@@ -28,7 +28,8 @@ use Rattle.epath_lists.proofs.blank_path
 use Rattle.epath_lists.proofs.default_port
 use Rattle.epath_lists.proofs.is_port
 use Rattle.epath_lists.proofs.Exact as EpathLists
-use Rattle.epath.proofs.read_segment
+use Rattle.epath_segment.proofs.read_segment
+use Rattle.epath_segment.proofs.Exact as EpathSegment
 use Rattle.epath.proofs.check_path
 use Rattle.epath.proofs.read_path
 use Rattle.epath.proofs.Exact as Epath
@@ -86,8 +87,9 @@ pub record Claims : Type 2 where
   pub blank-path : Exact blank_path.ended (λ _. blank_path.clauses)
   pub default-port : Exact default_port.ended (λ _. default_port.clauses)
   pub is-port : Exact is_port.ended (λ _. is_port.clauses)
-  -- epath
+  -- epath_segment
   pub read-segment : Exact read_segment.ended (λ _. read_segment.clauses)
+  -- epath
   pub check-path : Exact check_path.ended (λ _. check_path.clauses)
   pub read-path : Exact read_path.ended (λ _. read_path.clauses)
   -- connection
@@ -141,7 +143,7 @@ claims =
       path-size = EpathSizes.path-size-exact;
       write-segment = EpathEncode.write-segment-exact;
       write-path = EpathEncode.write-path-exact;
-      read-segment = Epath.read-segment-exact;
+      read-segment = EpathSegment.read-segment-exact;
       check-path = Epath.check-path-exact;
       read-path = Epath.read-path-exact;
       default-parameters = Connection.default-parameters-exact;

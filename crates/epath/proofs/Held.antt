@@ -12,9 +12,9 @@ use Rattle.epath_sizes.specs.Lists.{startOf, lenOf, shifted}
 use Rattle.epath_sizes.specs.declared.Segment.{Segment}
 use Rattle.epath_sizes.specs.declared.Segment.the-variants.{Symbol, Class, Instance, Attribute, Element, Port}
 use Rattle.epath_sizes.specs.declared.Slot.{Slot}
-use Rattle.epath.specs.Reads.{Front, front, readSeg, moved}
+use Rattle.epath_segment.specs.Reads.{Front, front, readSeg, moved}
 use Rattle.epath.specs.Paths.{before, walk, listOf}
-use Rattle.epath.proofs.Got.{got}
+use Rattle.epath_segment.proofs.Got.{got}
 use Rattle.epath.proofs.Walks.{walk-ends, walk-full, walk-stops, walk-goes}
 
 -- each slot's bytes lie in a pool of n bytes

@@ -1,9 +1,6 @@
-pub mod ReadLaws
-pub mod Begins
-pub mod Got
+pub mod ShiftLaws
 pub mod Places
 pub mod Walks
-pub mod Back
 pub mod Held
 pub mod RoundTrip
 pub mod Theorems

@@ -13,11 +13,11 @@ use Rattle.wire.proofs.Numbers.{bytes-drop}
 use Rattle.wire.proofs.Stores.{lent-all}
 use Rattle.epath_sizes.specs.Lists.{startOf, shifted}
 use Rattle.epath_sizes.specs.declared.Segment.{Segment}
-use Rattle.epath.specs.declared.SegmentRead.{SegmentRead}
-use Rattle.epath.specs.declared.SegmentRead.the-variants.{Found, Refused}
-use Rattle.epath.specs.Reads.{front, paperFront, readSeg}
+use Rattle.epath_segment.specs.declared.SegmentRead.{SegmentRead}
+use Rattle.epath_segment.specs.declared.SegmentRead.the-variants.{Found, Refused}
+use Rattle.epath_segment.specs.Reads.{front, paperFront, readSeg}
 use Rattle.epath.specs.Paths.{Placed}
-use Rattle.epath.proofs.Got.{Got, got}
+use Rattle.epath_segment.proofs.Got.{Got, got}
 
 module _ (s : List ℕ) (at : ℕ) (r : SegmentRead) (e : paperFront r ≡ readSeg (take (length s - at) (drop at s))) where
   whole : readSeg (drop at s) ≡ paperFront r

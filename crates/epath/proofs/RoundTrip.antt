@@ -16,11 +16,11 @@ use Rattle.epath_sizes.specs.Lists.{meaning, shifted}
 use Rattle.epath_sizes.specs.declared.Segment.{Segment}
 use Rattle.epath_sizes.specs.declared.Segment.the-variants.{Symbol, Class, Instance, Attribute, Element, Port}
 use Rattle.epath_sizes.specs.declared.Slot.{Slot}
-use Rattle.epath.specs.Reads.{Front, front, readSeg, parsed, seen, parse, moved}
+use Rattle.epath_segment.specs.Reads.{Front, front, readSeg, parsed, seen, parse, moved}
 use Rattle.epath.specs.Paths.{before, walk, sees, parsePath}
-use Rattle.epath.proofs.ReadLaws.{front-short}
-use Rattle.epath.proofs.Got.{Got, got}
-use Rattle.epath.proofs.Back.{read-written}
+use Rattle.epath_segment.proofs.ReadLaws.{front-short}
+use Rattle.epath_segment.proofs.Got.{Got, got}
+use Rattle.epath_segment.proofs.Back.{read-written}
 use Rattle.epath.proofs.Walks.{walk-ends, walk-full, walk-stops, walk-goes}
 
 -- ---- one segment

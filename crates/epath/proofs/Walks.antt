@@ -13,12 +13,12 @@ use Rattle.wire.specs.Answers.{Answer, done, refused}
 use Rattle.wire.specs.declared.Refusal.{Refusal}
 use Rattle.epath_sizes.specs.Limits.{maxSegments, mostBytes, maxPlace}
 use Rattle.epath_sizes.specs.declared.Segment.{Segment}
-use Rattle.epath.specs.declared.SegmentRead.{SegmentRead}
-use Rattle.epath.specs.declared.SegmentRead.the-variants.{Found, Refused}
+use Rattle.epath_segment.specs.declared.SegmentRead.{SegmentRead}
+use Rattle.epath_segment.specs.declared.SegmentRead.the-variants.{Found, Refused}
 use Rattle.epath_sizes.specs.declared.Slot.{Slot}
 use Rattle.epath_sizes.specs.declared.Path.{Path}
 use Rattle.epath_sizes.specs.Lists.{blank, blanks, pathOf}
-use Rattle.epath.specs.Reads.{front, paperFront, readSeg, moved}
+use Rattle.epath_segment.specs.Reads.{front, paperFront, readSeg, moved}
 use Rattle.epath.specs.Paths.{before, walk, PathFound, countOf, listOf, readPath, checkPath, Placed}
 
 -- ---- each end of the walk

@@ -9,7 +9,7 @@ use Rattle.wire.specs.Answers.{Answer, done, refused, paperCount}
 use Rattle.epath_sizes.specs.Limits.{maxSegments, mostBytes}
 use Rattle.epath_sizes.specs.Segments.{Seg}
 use Rattle.epath_sizes.specs.Lists.{segs, pathOf}
-use Rattle.epath.specs.Reads.{Front, front, readSeg, moved}
+use Rattle.epath_segment.specs.Reads.{Front, front, readSeg, moved}
 use Rattle.epath_sizes.specs.declared.Segment.{Segment}
 use Rattle.epath_sizes.specs.declared.Slot.{Slot}
 use Rattle.epath_sizes.specs.declared.Path.{Path}

@@ -1,14 +1,14 @@
 -- The loop over a list's slots that adds up sizes, and what a list's size says of it. Assumes nothing.
-use Prim.Native.Nat.{ℕ, zero, suc, _+_, _-_, _%_, _^_, _≤_, _<_}
-use mathlib.Core.Path.{_≡_, refl, sym, ap, _∙_, subst}
+use Prim.Native.Nat.{ℕ, zero, suc, _+_, _-_, _%_, _≤_, _<_}
+use mathlib.Core.Path.{_≡_, refl, sym, ap, _∙_}
 use mathlib.Core.List.{List, [], _∷_, _++_}
 use native.Mathlib.Numerals.{add-one}
 use native.Mathlib.Omega.{arith}
-use lib.ListN.{length, length-append, take, drop, getD, length-map}
-use lib.Seq.{sets, drop-cons, length-take-le, getD-take}
+use lib.ListN.{length, length-append, take, drop, getD}
+use lib.Seq.{drop-cons, length-take-le, getD-take}
 use mir.Val.{Fits}
 use mir.Syntax.{w64}
-use Rattle.wire.specs.Answers.{Answer, done, refused, paperSize, over, Put}
+use Rattle.wire.specs.Answers.{Answer, done, refused, paperSize, over}
 use Rattle.wire.specs.Refusals.{number}
 use Rattle.wire.specs.Folds.{sizes, joined}
 use Rattle.wire.specs.declared.Refusal.{Refusal}
@@ -17,9 +17,9 @@ use Rattle.wire.specs.declared.Wrote.the-variants.{Size, Refused}
 use Rattle.wire.proofs.Rules.{rules, all-were, all-keep}
 use Rattle.wire.proofs.Answers.{Parts, plus-parts}
 use Rattle.wire.proofs.Stores.{part-length}
-use Rattle.wire.proofs.Folds.{Adding, adding-first, adding-more, adding-stops, adding-ends, sizes-joined, Storing, storing-first, storing-fits, storing-more, storing-ends}
+use Rattle.wire.proofs.Folds.{Adding, adding-first, adding-more, adding-stops, adding-ends, sizes-joined}
 use Rattle.epath_sizes.specs.Limits.{maxSegments, maxSymbol, maxLink, mostBytes, symbolCode, classCode, instanceCode, attributeCode, elementCode}
-use Rattle.epath_sizes.specs.Segments.{Seg, port, logical, padOf, padded, portHead, encodeSeg, encode}
+use Rattle.epath_sizes.specs.Segments.{port, logical, padOf, padded, portHead, encodeSeg, encode}
 use Rattle.epath_sizes.specs.Lists.{meaning, slotsOf, segs, segsOf}
 use Rattle.epath_sizes.specs.Sizes.{segmentSize, pathSize, Good, AllGoodIn, AllGood}
 use Rattle.epath_sizes.specs.declared.Segment.{Segment}

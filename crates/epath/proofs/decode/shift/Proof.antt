@@ -1,7 +1,7 @@
 -- `epath::decode::shift` meets its contract. Assumes nothing.
---: use Rattle.epath.proofs.ReadLaws.{shift-laws}
+--: use Rattle.epath.proofs.ShiftLaws.{shift-laws}
 --: * = search (shift-laws, needs) fits 5000
-use Rattle.epath.proofs.ReadLaws.{shift-laws}
+use Rattle.epath.proofs.ShiftLaws.{shift-laws}
 use borrow.Author.Needs.{needs}
 use Rattle.epath.proofs.decode.shift.Statement.{statement}
 use Rattle.epath.proofs.decode.shift.Tie as tie

@@ -1,0 +1,53 @@
+-- What a segment's first byte says, by the table of first bytes. Assumes nothing.
+use Prim.Native.Nat.{ℕ, _+_, _<_}
+use mathlib.Core.Path.{_≡_, refl}
+use mathlib.Core.List.{List, [], _∷_}
+use mathlib.Core.Bool.{Bool, true, false}
+use lib.Dec.{eqb, ltb}
+use borrow.Author.Tests.{ltb-true, eqb-true}
+use Rattle.epath_sizes.specs.Limits.{portEnd, classCode, instanceCode, elementCode, attributeCode, symbolCode}
+use Rattle.epath_segment.specs.declared.decode.Kind.{Kind}
+use Rattle.epath_segment.specs.declared.decode.Kind.the-variants.{Class as kClass, Instance as kInstance, Attribute as kAttribute, Element as kElement}
+use Rattle.epath_segment.specs.declared.decode.Form.{Form}
+use Rattle.epath_segment.specs.declared.decode.Form.the-variants.{Port as fPort, Symbol as fSymbol, Narrow, Wide, Widest, Unknown}
+use Rattle.epath_segment.specs.Reads.{Row, row, table, lookup, formOf}
+
+abbrev pub codeOf : Kind → ℕ
+codeOf kClass = classCode
+codeOf kInstance = instanceCode
+codeOf kAttribute = attributeCode
+codeOf kElement = elementCode
+
+-- ---- what a first byte that has a form is
+pub data Begins : ℕ → Form → Type 0 where
+  port : {b : ℕ} → b < portEnd → Begins b fPort
+  symbol : {b : ℕ} → b ≡ symbolCode → Begins b fSymbol
+  narrow : {b : ℕ} (k : Kind) → b ≡ codeOf k → Begins b (Narrow k)
+  wide : {b : ℕ} (k : Kind) → b ≡ codeOf k + 1 → Begins b (Wide k)
+  widest : {b : ℕ} → b ≡ (elementCode + 2) → Begins b Widest
+  unknown : {b : ℕ} → Begins b Unknown
+
+-- a property of each row, and of no row, is one of what is looked up
+module _ (b : ℕ) (P : Form → Type 0) where
+  abbrev Each : List Row → Type 0
+  Each [] = P Unknown
+  Each (row c f ∷ rs) = (b ≡ c → P f) × Each rs
+
+  looked : (rs : List Row) → Each rs → P (lookup b rs)
+  unfolding lookup
+  looked [] e = e
+  looked (row c f ∷ rs) e = go (eqb b c) refl (looked rs (e .1))
+    where
+      go : (q : Bool) → eqb b c ≡ q → P (lookup b rs) → P (elim q [ true ↦ f | false ↦ lookup b rs ])
+      go true p r = e .0 (eqb-true b c p)
+      go false p r = r
+
+pub begins : (b : ℕ) → Begins b (formOf b)
+unfolding formOf
+begins b = go (ltb b portEnd) refl
+  where
+    go : (q : Bool) → ltb b portEnd ≡ q → Begins b (elim q [ true ↦ fPort | false ↦ lookup b table ])
+    go true p = port (ltb-true b portEnd p)
+    go false p =
+        looked b (Begins b) table
+        (symbol, (narrow kClass, (wide kClass, (narrow kInstance, (wide kInstance, (narrow kAttribute, (wide kAttribute, (narrow kElement, (wide kElement, (widest, unknown))))))))))
