@@ -44,15 +44,17 @@ use Rattle.connection_words.proofs.transport_of
 use Rattle.connection_words.proofs.Exact as ConnectionWords
 use Rattle.route.proofs.route_size
 use Rattle.route.proofs.Exact as Route
-use Rattle.forward_encode.proofs.default_connection_path
-use Rattle.forward_encode.proofs.forward_open_size
+use Rattle.forward_sizes.proofs.default_connection_path
+use Rattle.forward_sizes.proofs.forward_open_size
+use Rattle.forward_sizes.proofs.forward_close_size
+use Rattle.forward_sizes.proofs.Exact as ForwardSizes
 use Rattle.forward_encode.proofs.write_forward_open
-use Rattle.forward_encode.proofs.forward_close_size
 use Rattle.forward_encode.proofs.write_forward_close
 use Rattle.forward_encode.proofs.Exact as ForwardEncode
-use Rattle.request_encode.proofs.message_size
+use Rattle.request_sizes.proofs.message_size
+use Rattle.request_sizes.proofs.unconnected_send_size
+use Rattle.request_sizes.proofs.Exact as RequestSizes
 use Rattle.request_encode.proofs.write_message
-use Rattle.request_encode.proofs.unconnected_send_size
 use Rattle.request_encode.proofs.write_unconnected_send
 use Rattle.request_encode.proofs.Exact as RequestEncode
 use Rattle.request.proofs.read_message
@@ -103,16 +105,18 @@ pub record Claims : Type 2 where
   pub transport-of : Exact transport_of.ended (λ _. transport_of.clauses)
   -- route
   pub route-size : Exact route_size.ended (λ _. route_size.clauses)
-  -- forward_encode
+  -- forward_sizes
   pub default-connection-path : Exact default_connection_path.ended (λ _. default_connection_path.clauses)
   pub forward-open-size : Exact forward_open_size.ended (λ _. forward_open_size.clauses)
-  pub write-forward-open : Exact write_forward_open.ended (λ _. write_forward_open.clauses)
   pub forward-close-size : Exact forward_close_size.ended (λ _. forward_close_size.clauses)
+  -- forward_encode
+  pub write-forward-open : Exact write_forward_open.ended (λ _. write_forward_open.clauses)
   pub write-forward-close : Exact write_forward_close.ended (λ _. write_forward_close.clauses)
-  -- request_encode
+  -- request_sizes
   pub message-size : Exact message_size.ended (λ _. message_size.clauses)
-  pub write-message : Exact write_message.ended (λ _. write_message.clauses)
   pub unconnected-send-size : Exact unconnected_send_size.ended (λ _. unconnected_send_size.clauses)
+  -- request_encode
+  pub write-message : Exact write_message.ended (λ _. write_message.clauses)
   pub write-unconnected-send : Exact write_unconnected_send.ended (λ _. write_unconnected_send.clauses)
   -- request
   pub read-message : Exact read_message.ended (λ _. read_message.clauses)
@@ -154,14 +158,14 @@ claims =
       transport-class-trigger = ConnectionWords.transport-class-trigger-exact;
       transport-of = ConnectionWords.transport-of-exact;
       route-size = Route.route-size-exact;
-      default-connection-path = ForwardEncode.default-connection-path-exact;
-      forward-open-size = ForwardEncode.forward-open-size-exact;
+      default-connection-path = ForwardSizes.default-connection-path-exact;
+      forward-open-size = ForwardSizes.forward-open-size-exact;
+      forward-close-size = ForwardSizes.forward-close-size-exact;
       write-forward-open = ForwardEncode.write-forward-open-exact;
-      forward-close-size = ForwardEncode.forward-close-size-exact;
       write-forward-close = ForwardEncode.write-forward-close-exact;
-      message-size = RequestEncode.message-size-exact;
+      message-size = RequestSizes.message-size-exact;
+      unconnected-send-size = RequestSizes.unconnected-send-size-exact;
       write-message = RequestEncode.write-message-exact;
-      unconnected-send-size = RequestEncode.unconnected-send-size-exact;
       write-unconnected-send = RequestEncode.write-unconnected-send-exact;
       read-message = Request.read-message-exact;
       read-forward-open = Request.read-forward-open-exact;

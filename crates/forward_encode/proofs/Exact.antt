@@ -1,26 +1,13 @@
 -- Each public function takes every argument, and its contract leaves one answer and one content of what is lent.
 -- Assumes nothing.
-use mathlib.Core.Path.{refl}
 use Rattle.exact.specs.Exact.{Exact, exact, says, same}
 use Rattle.wire.proofs.Answers.{size-one}
-use Rattle.forward_encode.proofs.open.default_connection_path
-use Rattle.forward_encode.proofs.open.forward_open_size
 use Rattle.forward_encode.proofs.open.write_forward_open
-use Rattle.forward_encode.proofs.close.forward_close_size
 use Rattle.forward_encode.proofs.close.write_forward_close
-
-pub default-connection-path-exact : Exact default_connection_path.ended (λ _. default_connection_path.clauses)
-default-connection-path-exact = exact (λ w κs a. (tt, λ m. tt)) (λ w κs a g z e. search says) (λ t. (same (t .said) (t .said′), refl))
-
-pub forward-open-size-exact : Exact forward_open_size.ended (λ _. forward_open_size.clauses)
-forward-open-size-exact = exact (λ w κs a. (tt, λ m. tt)) (λ w κs a g z e. search says) (λ t. (size-one (t .z) (t .z′) (same (t .said) (t .said′)), refl))
 
 pub write-forward-open-exact : Exact write_forward_open.ended (λ _. write_forward_open.clauses)
 write-forward-open-exact = exact (λ w κs a. (tt, λ m. tt)) (λ w κs a g z e. search says) (λ t.
     (size-one (t .z) (t .z′) (same (t .said .0) (t .said′ .0)), λ i. (tt, (tt, (tt, (same (t .said .1) (t .said′ .1) i, tt))))))
-
-pub forward-close-size-exact : Exact forward_close_size.ended (λ _. forward_close_size.clauses)
-forward-close-size-exact = exact (λ w κs a. (tt, λ m. tt)) (λ w κs a g z e. search says) (λ t. (size-one (t .z) (t .z′) (same (t .said) (t .said′)), refl))
 
 pub write-forward-close-exact : Exact write_forward_close.ended (λ _. write_forward_close.clauses)
 write-forward-close-exact = exact (λ w κs a. (tt, λ m. tt)) (λ w κs a g z e. search says) (λ t.

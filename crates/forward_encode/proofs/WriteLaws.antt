@@ -4,7 +4,7 @@ use mathlib.Core.Path.{_≡_, refl, sym, ap, _∙_}
 use mathlib.Core.List.{List, [], _∷_, _++_, append-assoc}
 use mathlib.Core.Bool.{Bool, true, false, true≢false}
 use native.Mathlib.Omega.{arith}
-use lib.ListN.{set, replicate, length-append}
+use lib.ListN.{length-append}
 use lib.Seq.{sets}
 use mir.Val.{Fits}
 use mir.Syntax.{w16}
@@ -17,10 +17,7 @@ use Rattle.wire.proofs.Stores.{sets-append, sets-ahead}
 use Rattle.wire.proofs.Folds.{joined-append}
 use Rattle.wire.proofs.Records.{laid-length, laid-more}
 use Rattle.epath_sizes.specs.Segments.{encode}
-use Rattle.epath_sizes.specs.Limits.{maxSegments}
-use Rattle.epath_sizes.specs.Lists.{blank, pathOf, backplane, segsOf}
-use Rattle.epath_sizes.specs.declared.Segment.the-variants.{Class, Instance, Port}
-use Rattle.epath_sizes.specs.declared.PortSegment.{PortSegment}
+use Rattle.epath_sizes.specs.Lists.{segsOf}
 use Rattle.epath_sizes.specs.declared.Path.{Path}
 use Rattle.connection.specs.Limits.{sizeLimit}
 use Rattle.connection_words.proofs.FieldLaws.{flags-most}
@@ -32,17 +29,8 @@ use Rattle.connection.specs.declared.ForwardCloseRequest.{ForwardCloseRequest}
 use Rattle.connection_words.specs.declared.Word.{Word}
 use Rattle.connection_words.specs.declared.Word.the-variants.{Bits, Refused as NoWord}
 use Rattle.route.specs.Routes.{Ready, Routed}
-use Rattle.forward_encode.specs.Sizes.{defaultSlots, openBase}
-use Rattle.forward_encode.proofs.SizeLaws.{word-small-size, open-front}
-
--- ---- the default path
-pub default-path : (q : PortSegment) → q ≡ backplane
-    → record {
-      slots = set (set (set (replicate maxSegments blank) 0 (record { segment = Port q })) 1 (record { segment = Class 2 })) 2 (record { segment = Instance 1 });
-      count = 3;
-    }
-    ≡ pathOf defaultSlots
-default-path q e = rw e
+use Rattle.forward_sizes.specs.Sizes.{openBase}
+use Rattle.forward_sizes.proofs.SizeLaws.{word-small-size, open-front}
 
 -- ---- what names a connection
 module _ (old : List ℕ) (at : ℕ) where

@@ -1,9 +1,9 @@
 // Forward Close. Beside it in rseip-cip: `ForwardCloseRequest` in src/codec/encode.rs.
 use crate::triad::put_triad;
 use connection::ForwardCloseRequest;
-use epath_encode::Path;
 use epath_encode::write_path;
-use route::route_size;
+use epath_sizes::Path;
+use forward_sizes::forward_close_size;
 use wire::Refusal;
 use wire::Wrote;
 use wire::put_bytes;
@@ -15,18 +15,8 @@ ghost use Rattle.wire.specs.Records.{laid};
 ghost use Rattle.epath_sizes.specs.Segments.{encode};
 ghost use Rattle.epath_sizes.specs.Lists.{segsOf};
 ghost use Rattle.connection_words.specs.Requests.{closeFields, closeBytes};
-ghost use Rattle.forward_encode.specs.Sizes.{closeSize};
+ghost use Rattle.forward_sizes.specs.Sizes.{closeSize};
 ghost use Rattle.route.specs.Routes.{Ready};
-
-// How many bytes a Forward Close takes.
-pub fn forward_close_size(p: Path, pool: &[u8]) -> Wrote
-    ensures { λ r. ⌜ paperSize r ≡ closeSize (now (pool .entry)) p ⌝ }
-{
-    match route_size(p, pool) {
-        Wrote::Refused(e) => Wrote::Refused(e),
-        Wrote::Size(n) => Wrote::Size(12 + n),
-    }
-}
 
 // What stands before the path.
 fn put_close_fields(c: ForwardCloseRequest, words: u8, out: &mut [u8])

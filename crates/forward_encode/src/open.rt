@@ -5,12 +5,9 @@ use connection::OpenOptions;
 use connection_words::Word;
 use connection_words::encode_parameters;
 use connection_words::transport_class_trigger;
-use epath_encode::Path;
-use epath_encode::Segment;
-use epath_encode::Slot;
 use epath_encode::write_path;
-use epath_lists::default_port;
-use route::route_size;
+use epath_sizes::Path;
+use forward_sizes::forward_open_size;
 use wire::Refusal;
 use wire::Wrote;
 use wire::put_bytes;
@@ -26,9 +23,10 @@ ghost use Rattle.wire.specs.Answers.{paperSize, done, withRoom, written};
 ghost use Rattle.wire.specs.Records.{laid};
 ghost use Rattle.connection_words.specs.Fields.{wordOf, parameterWord};
 ghost use Rattle.epath_sizes.specs.Segments.{encode};
-ghost use Rattle.epath_sizes.specs.Lists.{pathOf, segsOf};
+ghost use Rattle.epath_sizes.specs.Lists.{segsOf};
 ghost use Rattle.connection_words.specs.Requests.{parameterWidth, direction, openIds, openHead, openRest, openBytes};
-ghost use Rattle.forward_encode.specs.Sizes.{defaultSlots, openBase, openSize, GoodWords};
+ghost use Rattle.forward_sizes.specs.Sizes.{openBase, openSize};
+ghost use Rattle.forward_encode.specs.Words.{GoodWords};
 ghost use Rattle.route.specs.Routes.{Ready};
 
 fn parameter_width(large: bool) -> usize
@@ -48,43 +46,6 @@ fn open_base(large: bool) -> usize
         return 40;
     }
     36
-}
-
-// The path of the default record: the backplane, then the message router. It needs no pool.
-pub fn default_connection_path() -> Path
-    ensures { λ r. ⌜ r ≡ pathOf defaultSlots ⌝ }
-{
-    let blank = Slot {
-        segment: Segment::Class(0),
-    };
-    let port = default_port();
-    let mut slots = [blank; epath_encode::MAX_SEGMENTS];
-    slots[0] = Slot {
-        segment: Segment::Port(port),
-    };
-    slots[1] = Slot {
-        segment: Segment::Class(2),
-    };
-    slots[2] = Slot {
-        segment: Segment::Instance(1),
-    };
-    Path { slots, count: 3 }
-}
-
-// How many bytes a Forward Open takes.
-pub fn forward_open_size(o: OpenOptions, p: Path, pool: &[u8]) -> Wrote
-    ensures { λ r. ⌜ paperSize r ≡ openSize (now (pool .entry)) p o ⌝ }
-{
-    match route_size(p, pool) {
-        Wrote::Refused(e) => Wrote::Refused(e),
-        Wrote::Size(n) => match encode_parameters(o.large_open, o.o_t_params) {
-            Word::Refused(e) => Wrote::Refused(e),
-            Word::Bits(_) => match encode_parameters(o.large_open, o.t_o_params) {
-                Word::Refused(e) => Wrote::Refused(e),
-                Word::Bits(_) => Wrote::Size(open_base(o.large_open) + n),
-            },
-        },
-    }
 }
 
 // Stores the word of parameters that were judged.

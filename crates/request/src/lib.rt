@@ -1,4 +1,4 @@
-// Requests, whole: the readers here, and sizes and writers handed on from forward_encode and request_encode. A message, Forward Open (small and large), Forward
+// Requests, whole: the readers here, and sizes and writers handed on from the crates below. A message, Forward Open (small and large), Forward
 // Close and Unconnected Send. rseip-cip has no such readers: they are added.
 // A reader answers the record, and its parts as starts and lengths in the input; the path is judged here and its segments are read from that part.
 mod close; // close.rt: Forward Close
@@ -11,17 +11,17 @@ pub use close::read_forward_close;
 use connection::ForwardCloseRequest;
 use connection::OpenOptions;
 use connection::UnconnectedSend;
-pub use forward_encode::default_connection_path;
-pub use forward_encode::forward_close_size;
-pub use forward_encode::forward_open_size;
 pub use forward_encode::write_forward_close;
 pub use forward_encode::write_forward_open;
+pub use forward_sizes::default_connection_path;
+pub use forward_sizes::forward_close_size;
+pub use forward_sizes::forward_open_size;
 pub use message::read_message;
 pub use open::read_forward_open;
-pub use request_encode::message_size;
-pub use request_encode::unconnected_send_size;
 pub use request_encode::write_message;
 pub use request_encode::write_unconnected_send;
+pub use request_sizes::message_size;
+pub use request_sizes::unconnected_send_size;
 pub use send::read_unconnected_send;
 use wire::Refusal;
 

@@ -1,22 +1,13 @@
 -- Each public function takes every argument, and its contract leaves one answer and one content of what is lent.
 -- Assumes nothing.
-use mathlib.Core.Path.{refl}
 use Rattle.exact.specs.Exact.{Exact, exact, says, same}
 use Rattle.wire.proofs.Answers.{size-one}
-use Rattle.request_encode.proofs.message.message_size
 use Rattle.request_encode.proofs.message.write_message
-use Rattle.request_encode.proofs.send.unconnected_send_size
 use Rattle.request_encode.proofs.send.write_unconnected_send
-
-pub message-size-exact : Exact message_size.ended (λ _. message_size.clauses)
-message-size-exact = exact (λ w κs a. (tt, λ m. tt)) (λ w κs a g z e. search says) (λ t. (size-one (t .z) (t .z′) (same (t .said) (t .said′)), refl))
 
 pub write-message-exact : Exact write_message.ended (λ _. write_message.clauses)
 write-message-exact = exact (λ w κs a. (tt, λ m. tt)) (λ w κs a g z e. search says) (λ t.
     (size-one (t .z) (t .z′) (same (t .said .0) (t .said′ .0)), λ i. (tt, (tt, (tt, (tt, (same (t .said .1) (t .said′ .1) i, tt)))))))
-
-pub unconnected-send-size-exact : Exact unconnected_send_size.ended (λ _. unconnected_send_size.clauses)
-unconnected-send-size-exact = exact (λ w κs a. (tt, λ m. tt)) (λ w κs a g z e. search says) (λ t. (size-one (t .z) (t .z′) (same (t .said) (t .said′)), refl))
 
 pub write-unconnected-send-exact : Exact write_unconnected_send.ended (λ _. write_unconnected_send.clauses)
 write-unconnected-send-exact = exact (λ w κs a. (tt, λ m. tt)) (λ w κs a g z e. search says) (λ t.

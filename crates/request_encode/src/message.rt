@@ -1,8 +1,7 @@
 // The message request. Beside it in rseip-cip: src/codec/encode/message.rs.
-use crate::record::record_size;
-use epath_encode::Path;
 use epath_encode::write_path;
-use route::route_size;
+use epath_sizes::Path;
+use request_sizes::message_size;
 use wire::Refusal;
 use wire::Wrote;
 use wire::put_byte;
@@ -14,18 +13,8 @@ ghost use Rattle.wire.specs.Answers.{paperSize, withRoom, written};
 ghost use Rattle.epath_sizes.specs.Segments.{encode};
 ghost use Rattle.epath_sizes.specs.Lists.{segsOf};
 ghost use Rattle.connection_words.specs.Requests.{messageBytes};
-ghost use Rattle.request_encode.specs.Sizes.{messageSize};
+ghost use Rattle.request_sizes.specs.Sizes.{messageSize};
 ghost use Rattle.route.specs.Routes.{Ready};
-
-// How many bytes a message takes.
-pub fn message_size(p: Path, pool: &[u8], data: &[u8]) -> Wrote
-    ensures { λ r. ⌜ paperSize r ≡ messageSize (now (pool .entry)) p (length (now («data» .entry))) ⌝ }
-{
-    match route_size(p, pool) {
-        Wrote::Refused(e) => Wrote::Refused(e),
-        Wrote::Size(n) => record_size(2 + n, data.len()),
-    }
-}
 
 // A message that was judged.
 fn put_message(service_code: u8, p: Path, pool: &[u8], data: &[u8], out: &mut [u8])

@@ -1,9 +1,8 @@
 // Unconnected Send. Beside it in rseip-cip: `UnconnectedSend` in src/codec/encode.rs and src/service/request.rs.
-use crate::record::record_size;
 use connection::UnconnectedSend;
-use epath_encode::Path;
 use epath_encode::write_path;
-use route::route_size;
+use epath_sizes::Path;
+use request_sizes::unconnected_send_size;
 use wire::Refusal;
 use wire::Wrote;
 use wire::put_byte;
@@ -20,21 +19,8 @@ ghost use Rattle.epath_sizes.specs.Segments.{encode};
 ghost use Rattle.epath_sizes.specs.Lists.{segsOf};
 ghost use Rattle.connection.specs.Limits.{maxRecord};
 ghost use Rattle.connection_words.specs.Requests.{sendHead, sendRest, sendBytes};
-ghost use Rattle.request_encode.specs.Sizes.{sendSize};
+ghost use Rattle.request_sizes.specs.Sizes.{sendSize};
 ghost use Rattle.route.specs.Routes.{Ready};
-
-// How many bytes an Unconnected Send takes.
-pub fn unconnected_send_size(message: &[u8], p: Path, pool: &[u8]) -> Wrote
-    ensures { λ r. ⌜ paperSize r ≡ sendSize (now (pool .entry)) p (length (now (message .entry))) ⌝ }
-{
-    match route_size(p, pool) {
-        Wrote::Refused(e) => Wrote::Refused(e),
-        Wrote::Size(n) => {
-            let m = message.len();
-            record_size(6 + n + m % 2, m)
-        }
-    }
-}
 
 // Stores a zero where n is odd.
 fn put_pad(out: &mut [u8], at: usize, n: usize)

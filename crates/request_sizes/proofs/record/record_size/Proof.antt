@@ -1,10 +1,10 @@
--- `request_encode::record::record_size` meets its contract. Assumes nothing.
---: use Rattle.request_encode.proofs.SizeLaws.{record-laws}
+-- `request_sizes::record::record_size` meets its contract. Assumes nothing.
+--: use Rattle.request_sizes.proofs.SizeLaws.{record-laws}
 --: * = search (record-laws, needs) fits 5000
-use Rattle.request_encode.proofs.SizeLaws.{record-laws}
+use Rattle.request_sizes.proofs.SizeLaws.{record-laws}
 use borrow.Author.Needs.{needs}
-use Rattle.request_encode.proofs.record.record_size.Statement.{statement}
-use Rattle.request_encode.proofs.record.record_size.Tie as tie
+use Rattle.request_sizes.proofs.record.record_size.Statement.{statement}
+use Rattle.request_sizes.proofs.record.record_size.Tie as tie
 
 sub-if1 : tie.Need-sub-if1
 sub-if1 c = search needs

@@ -1,10 +1,10 @@
--- `forward_encode::open::default_connection_path` meets its contract. Assumes nothing.
---: use Rattle.forward_encode.proofs.WriteLaws.{default-path}
+-- `forward_sizes::open::default_connection_path` meets its contract. Assumes nothing.
+--: use Rattle.forward_sizes.proofs.DefaultLaws.{default-path}
 --: * = search (default-path, needs) fits 5000
-use Rattle.forward_encode.proofs.WriteLaws.{default-path}
+use Rattle.forward_sizes.proofs.DefaultLaws.{default-path}
 use borrow.Author.Needs.{needs}
-use Rattle.forward_encode.proofs.open.default_connection_path.Statement.{statement}
-use Rattle.forward_encode.proofs.open.default_connection_path.Tie as tie
+use Rattle.forward_sizes.proofs.open.default_connection_path.Statement.{statement}
+use Rattle.forward_sizes.proofs.open.default_connection_path.Tie as tie
 
 default-port-requires : tie.Need-default-port-requires
 default-port-requires c κs = search needs

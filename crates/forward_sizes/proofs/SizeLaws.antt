@@ -30,7 +30,7 @@ use Rattle.connection_words.specs.declared.Word.{Word}
 use Rattle.connection_words.specs.declared.Word.the-variants.{Bits, Refused as NoWord}
 use Rattle.route.specs.Routes.{routeSize, Ready}
 use Rattle.route.proofs.RouteLaws.{from-stops, from-goes, from-short, Left, left}
-use Rattle.forward_encode.specs.Sizes.{openBase, openSize, closeSize}
+use Rattle.forward_sizes.specs.Sizes.{openBase, openSize, closeSize}
 
 -- ---- forwards: what the code's ends answer
 module _ (pool : List ℕ) (p : Path) (r : Wrote) (is : paperSize r ≡ routeSize pool p) where

@@ -1,7 +1,6 @@
--- What the sizes and the writers answer. Document 01, "Refusal numbers": the count and the segments, then the path's limit, then the other
--- fields, then room; the limit of a record is far from the longest of these. Assumes nothing: these are definitions.
+-- What the sizes answer. Document 01, "Refusal numbers": the count and the segments, then the path's limit, then the other fields; the limit of
+-- a record is far from the longest of these. Assumes nothing: these are definitions.
 use Prim.Native.Nat.{ℕ, _+_}
-use mathlib.Core.Path.{_≡_}
 use mathlib.Core.List.{List, [], _∷_}
 use mathlib.Core.Bool.{Bool, true, false}
 use Rattle.wire.specs.Answers.{Answer, done, andThen}
@@ -10,7 +9,7 @@ use Rattle.epath_sizes.specs.declared.Segment.the-variants.{Class, Instance, Po
 use Rattle.epath_sizes.specs.declared.Slot.{Slot}
 use Rattle.epath_sizes.specs.declared.Path.{Path}
 use Rattle.connection.specs.declared.OpenOptions.{OpenOptions}
-use Rattle.connection_words.specs.Fields.{wordOf, parameterWord}
+use Rattle.connection_words.specs.Fields.{parameterWord}
 use Rattle.route.specs.Routes.{routeSize}
 
 -- the path of the default Forward Open: the backplane, and instance 1 of class 2, the message router
@@ -31,9 +30,3 @@ openSize pool p o =
 
 unfoldable pub closeSize : List ℕ → Path → Answer ℕ
 closeSize pool p = andThen (routeSize pool p) (λ n. done (12 + n))
-
--- ---- for the writer's own parts: both words of parameters were judged
-abbrev pub GoodWords : OpenOptions → Type 0
-GoodWords o =
-    (parameterWord (o .«large_open») (o .«o_t_params») ≡ done (wordOf (o .«large_open») (o .«o_t_params»)))
-    × (parameterWord (o .«large_open») (o .«t_o_params») ≡ done (wordOf (o .«large_open») (o .«t_o_params»)))

@@ -22,7 +22,7 @@ use Rattle.connection.specs.declared.UnconnectedSend.{UnconnectedSend}
 use Rattle.connection_words.specs.Requests.{messageBytes, sendBytes}
 use Rattle.route.specs.Routes.{routeSize, Ready}
 use Rattle.route.proofs.RouteLaws.{from-stops, from-goes, from-short, Left, left}
-use Rattle.request_encode.specs.Sizes.{recordSize, messageSize, sendSize}
+use Rattle.request_sizes.specs.Sizes.{recordSize, messageSize, sendSize}
 
 -- ---- a record's size
 module _ (head n : ℕ) (small : head ≤ 1000) where

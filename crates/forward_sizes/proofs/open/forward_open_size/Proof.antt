@@ -1,10 +1,10 @@
--- `forward_encode::open::forward_open_size` meets its contract. Assumes nothing.
---: use Rattle.forward_encode.proofs.SizeLaws.{size-laws}
+-- `forward_sizes::open::forward_open_size` meets its contract. Assumes nothing.
+--: use Rattle.forward_sizes.proofs.SizeLaws.{size-laws}
 --: * = search (size-laws, needs) fits 5000
-use Rattle.forward_encode.proofs.SizeLaws.{size-laws}
+use Rattle.forward_sizes.proofs.SizeLaws.{size-laws}
 use borrow.Author.Needs.{needs}
-use Rattle.forward_encode.proofs.open.forward_open_size.Statement.{statement}
-use Rattle.forward_encode.proofs.open.forward_open_size.Tie as tie
+use Rattle.forward_sizes.proofs.open.forward_open_size.Statement.{statement}
+use Rattle.forward_sizes.proofs.open.forward_open_size.Tie as tie
 
 route-size-requires : tie.Need-route-size-requires
 route-size-requires c κs = search needs

@@ -4,7 +4,7 @@ use wire::Wrote;
 ghost use mathlib.Core.Path.{_≡_};
 ghost use Prim.Native.Nat.{_+_, _≤_};
 ghost use Rattle.wire.specs.Answers.{paperSize};
-ghost use Rattle.request_encode.specs.Sizes.{recordSize};
+ghost use Rattle.request_sizes.specs.Sizes.{recordSize};
 
 // The size of a record that has head bytes beside n of a lent part.
 pub(crate) fn record_size(head: usize, n: usize) -> Wrote

@@ -1,4 +1,4 @@
--- What the sizes and the writers answer. Document 01, "Refusal numbers": the count and the segments, then the whole limits, then room.
+-- What the sizes answer. Document 01, "Refusal numbers": the count and the segments, then the whole limits.
 -- Assumes nothing: these are definitions.
 use Prim.Native.Nat.{ℕ, _+_, _%_}
 use mathlib.Core.List.{List, [], _∷_}
