@@ -179,7 +179,7 @@ fn put_transport(o: OpenOptions, reply: &mut [u8], at: usize) {
     if reply.len() <= at {
         return;
     }
-    let b = connection_words::transport_class_trigger(o);
+    let b = transport_words::transport_class_trigger(o);
     wire::put_byte(reply, at, b / 128);
     wire::put_byte(reply, at + 1, b / 16 % 8);
     wire::put_byte(reply, at + 2, b % 16);

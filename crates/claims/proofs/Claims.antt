@@ -39,9 +39,10 @@ use Rattle.connection.proofs.priority_tick_time
 use Rattle.connection.proofs.Exact as Connection
 use Rattle.connection_words.proofs.encode_parameters
 use Rattle.connection_words.proofs.decode_parameters
-use Rattle.connection_words.proofs.transport_class_trigger
-use Rattle.connection_words.proofs.transport_of
 use Rattle.connection_words.proofs.Exact as ConnectionWords
+use Rattle.transport_words.proofs.transport_class_trigger
+use Rattle.transport_words.proofs.transport_of
+use Rattle.transport_words.proofs.Exact as TransportWords
 use Rattle.route.proofs.route_size
 use Rattle.route.proofs.Exact as Route
 use Rattle.forward_sizes.proofs.default_connection_path
@@ -101,6 +102,7 @@ pub record Claims : Type 2 where
   -- connection_words
   pub encode-parameters : Exact encode_parameters.ended (λ _. encode_parameters.clauses)
   pub decode-parameters : Exact decode_parameters.ended (λ _. decode_parameters.clauses)
+  -- transport_words
   pub transport-class-trigger : Exact transport_class_trigger.ended (λ _. transport_class_trigger.clauses)
   pub transport-of : Exact transport_of.ended (λ _. transport_of.clauses)
   -- route
@@ -155,8 +157,8 @@ claims =
       priority-tick-time = Connection.priority-tick-time-exact;
       encode-parameters = ConnectionWords.encode-parameters-exact;
       decode-parameters = ConnectionWords.decode-parameters-exact;
-      transport-class-trigger = ConnectionWords.transport-class-trigger-exact;
-      transport-of = ConnectionWords.transport-of-exact;
+      transport-class-trigger = TransportWords.transport-class-trigger-exact;
+      transport-of = TransportWords.transport-of-exact;
       route-size = Route.route-size-exact;
       default-connection-path = ForwardSizes.default-connection-path-exact;
       forward-open-size = ForwardSizes.forward-open-size-exact;

@@ -1,16 +1,13 @@
-// The fields of several bits, as sums of their parts: reading them is dividing. Beside it in rseip-cip: `encode_parameters` in
-// src/codec/encode.rs and `transport_class_trigger` in src/connection.rs.
+// Connection parameters, as a sum of their parts: reading them is dividing. Beside it in rseip-cip: `encode_parameters` in src/codec/encode.rs.
 use crate::ParametersRead;
-use crate::TransportRead;
 use crate::Word;
 use crate::codes;
 use connection::ConnectionParameters;
-use connection::OpenOptions;
 use wire::Refusal;
 ghost use mathlib.Core.Path.{_≡_};
 ghost use Prim.Native.Nat.{_<_};
 ghost use Rattle.connection.specs.Limits.{sizeLimit};
-ghost use Rattle.connection_words.specs.Fields.{unit, flagsOf, paperWord, parameterWord, parametersOf, paperParameters, readParameters, classTrigger, paperTransport, readTransport};
+ghost use Rattle.connection_words.specs.Fields.{unit, flagsOf, paperWord, parameterWord, parametersOf, paperParameters, readParameters};
 
 // What the flags of a parameter word are counted in: what stands below them is the connection size.
 fn flag_unit(large: bool) -> u32
@@ -92,33 +89,4 @@ pub fn decode_parameters(large: bool, word: u32) -> ParametersRead
     }
     let p = split(size as u16, flags);
     ParametersRead::Found(p)
-}
-
-// Direction, trigger and class in one byte.
-pub fn transport_class_trigger(o: OpenOptions) -> u8
-    ensures { λ r. ⌜ r ≡ classTrigger o ⌝ }
-{
-    let direction = o.transport_direction;
-    let trigger = o.transport_trigger;
-    let class = o.transport_class;
-    let d = codes::direction_number(direction);
-    let t = codes::trigger_number(trigger);
-    let c = codes::class_number(class);
-    128 * d + 16 * t + c
-}
-
-// Direction, trigger and class of a byte; trigger 3 to 7 and class 7 to 15 are 4.
-pub fn transport_of(b: u8) -> TransportRead
-    ensures { λ r. ⌜ paperTransport r ≡ readTransport b ⌝ }
-{
-    if 2 < b / 16 % 8 {
-        return TransportRead::Refused(Refusal::Code);
-    }
-    if 6 < b % 16 {
-        return TransportRead::Refused(Refusal::Code);
-    }
-    let direction = codes::direction_of(b / 128);
-    let trigger = codes::trigger_of(b / 16 % 8);
-    let class = codes::class_of(b % 16);
-    TransportRead::Found(direction, trigger, class)
 }

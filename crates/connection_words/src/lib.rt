@@ -1,6 +1,7 @@
-// The fields of a Connection Manager's record that have several parts in their bits: connection parameters, class and trigger.
+// The fields of a Connection Manager's record that have several parts in their bits: connection parameters here, class and trigger in
+// transport_words, whose answer is declared here beside its definition.
 mod codes; // codes.rt: the enums as numbers, and back
-mod fields; // fields.rt: the fields
+mod fields; // fields.rt: connection parameters
 
 use connection::ConnectionParameters;
 use connection::Direction;
@@ -8,8 +9,6 @@ use connection::TransportClass;
 use connection::TriggerType;
 pub use fields::decode_parameters;
 pub use fields::encode_parameters;
-pub use fields::transport_class_trigger;
-pub use fields::transport_of;
 use wire::Refusal;
 
 // A field of several bits as a number, or why there is none.

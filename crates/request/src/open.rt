@@ -11,7 +11,7 @@ use connection::TriggerType;
 use connection_words::ParametersRead;
 use connection_words::TransportRead;
 use connection_words::decode_parameters;
-use connection_words::transport_of;
+use transport_words::transport_of;
 use wire::Counted;
 use wire::Refusal;
 use wire::byte_at;

@@ -1,10 +1,10 @@
--- `connection_words::codes::trigger_of` meets its contract. Assumes nothing.
+-- `transport_words::codes::trigger_of` meets its contract. Assumes nothing.
 --: use Rattle.wire.proofs.Choice.{choice-laws}
 --: * = search (choice-laws, needs) fits 5000
 use Rattle.wire.proofs.Choice.{choice-laws}
-use Rattle.connection_words.proofs.codes.trigger_of.Statement.{statement}
+use Rattle.transport_words.proofs.codes.trigger_of.Statement.{statement}
 use borrow.Author.Needs.{needs}
-use Rattle.connection_words.proofs.codes.trigger_of.Tie as tie
+use Rattle.transport_words.proofs.codes.trigger_of.Tie as tie
 
 returns : tie.Need-returns
 returns c = search (choice-laws, needs) fits 5000
