@@ -1,8 +1,9 @@
 #!/bin/sh
 # The Rust as judge: asks the crate and our program `answers` the same, and compares.
-#   sh oracle/compare.sh PAGES [--seed S] [--count N] [--answers PROGRAM] [--build FOLDER]
+#   sh oracle/compare.sh PAGES [--seed S] [--count N] [--answers PROGRAM] [--build FOLDER] [--refused]
 #   sh oracle/compare.sh PAGES --record [FOLDER]      writes FOLDER/stdin and FOLDER/stdout (default: crates/answers)
 #   sh oracle/compare.sh PAGES --recorded [FOLDER]    asks the crate again for what stands there
+# --refused shows what the crate did with the replies that we refuse.
 # The last line is `N compared, 0 differ`. Read oracle/README.md.
 set -eu
 here=$(cd "$(dirname "$0")" && pwd)
@@ -13,6 +14,7 @@ build=${TMPDIR:-/tmp}/barkcushion-oracle
 answers=$root/target/bin/answers
 mode=compare
 folder=$root/crates/answers
+refused=
 seed=1
 count=1000000
 while [ $# -gt 0 ]; do
@@ -24,13 +26,14 @@ while [ $# -gt 0 ]; do
     --count) count=${2:?a number}; shift ;;
     --answers) answers=${2:?a program}; shift ;;
     --build) build=${2:?a folder}; shift ;;
+    --refused) refused=$1 ;;
     *) echo "$1?" >&2; exit 2 ;;
     esac
     shift
 done
 sh "$here/build.sh" "$pages" "$build"
 if [ "$mode" = compare ]; then
-    exec "$build/target/release/compare" --seed "$seed" --count "$count" --answers "$answers"
+    exec "$build/target/release/compare" --seed "$seed" --count "$count" --answers "$answers" ${refused:+"$refused"}
 fi
 mkdir -p "$folder"
 exec "$build/target/release/compare" "$mode" "$folder"

@@ -1,8 +1,10 @@
 //! The crate's own answers. Everything here comes from what rseip-cip wrote; nothing from the judge.
-//! This file has segments and paths; requests have a file below it.
+//! This file has segments and paths; requests and replies have a file each below it.
 
+pub mod replies;
 pub mod requests;
 
+use crate::case::replies::{routing_of_line, Reply};
 use crate::case::requests::{default_of_line, Request};
 use crate::case::{digits, meaning, Plain, Writer, ATTRIBUTE, CLASS, ELEMENT, INSTANCE, PORT, SYMBOL};
 use crate::{bytes_of, enc, guard, Encode};
@@ -92,7 +94,8 @@ pub fn writer_answer(wrote: &Wrote, room: Option<u32>) -> Option<Vec<u8>> {
     Some(digits(&a))
 }
 
-/// The answer to a line of a writer, a size, the default or the setter; None where it is not in the domain.
+/// The answer to a line of a writer, a size, the default, the setter, or of 20 to 22 and 27; None where it is not in the
+/// domain.
 pub fn of_line(line: &[u8]) -> Option<Vec<u8>> {
     if let Some(w) = Writer::of_line(line) {
         return answer(&w);
@@ -102,6 +105,12 @@ pub fn of_line(line: &[u8]) -> Option<Vec<u8>> {
     }
     if let Some((large, serial, room)) = default_of_line(line) {
         return requests::default_answer(large, serial, room);
+    }
+    if let Some(r) = Reply::of_line(line) {
+        return replies::answer(&r).ok();
+    }
+    if let Some(s) = routing_of_line(line) {
+        return replies::routing_answer(&s);
     }
     match crate::case::undigits(line)?[..] {
         [0x15, value] => Some(requests::setter_answer(value)),

@@ -2,6 +2,7 @@
 //! apart by itself.
 
 pub mod fields;
+pub mod replies;
 pub mod requests;
 
 pub const SYMBOL: u8 = 0;

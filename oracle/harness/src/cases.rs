@@ -1,10 +1,16 @@
 //! The cases. Each group of operations has files of its own below; a later landing adds its file, and a line to
 //! `fixed` and to `random`.
 
+pub mod damage;
+pub mod envelopes;
 pub mod lines;
 pub mod path_lists;
 pub mod path_reads;
 pub mod path_refusals;
+pub mod replies;
+pub mod replies_drawn;
+pub mod replies_reads;
+pub mod replies_writes;
 pub mod requests;
 pub mod requests_drawn;
 pub mod requests_fields;
@@ -13,6 +19,8 @@ pub mod requests_reads;
 pub mod scripts;
 
 use crate::ask_crate;
+use crate::ask_crate::replies::Beside;
+use crate::case::replies::Forward;
 use crate::case::requests::Record;
 use crate::case::{reader_line, Plain, Writer};
 use crate::rng::Rng;
@@ -29,13 +37,17 @@ pub enum Truth {
     Input(Vec<u8>),
     /// the judge; where 18 to 1B accepts all the same, the crate has to write the input again from what was read
     Record(Record),
+    /// the judge; where 23 to 25 accepts, the crate has to read this reply back from what was written
+    Written(Forward),
+    /// the judge; the crate was asked too, and what it did is counted by kind
+    Beside(Beside),
     /// the judge alone
     Judge,
 }
 
 impl Truth {
     pub fn is_crates(&self) -> bool {
-        !matches!(self, Truth::Judge | Truth::Input(_) | Truth::Record(_))
+        matches!(self, Truth::Crate(_) | Truth::List { .. } | Truth::Front { .. })
     }
 }
 
@@ -54,20 +66,28 @@ pub fn fixed(to: &mut Sink) {
     requests_fields::fixed(to);
     requests_limits::fixed(to);
     requests_reads::fixed(to);
+    replies_reads::fixed(to);
+    replies_writes::fixed(to);
+    envelopes::fixed(to);
     lines::fixed(to);
 }
 
 /// One draw: a case or a few that belong together.
 pub fn random(rng: &mut Rng, to: &mut Sink) {
-    match rng.below(100) {
-        0..=9 => path_lists::random(rng, to),
-        10..=24 => path_lists::random_segment(rng, to),
-        25..=31 => path_reads::random(rng, to),
-        32..=34 => path_refusals::random(rng, to),
-        35..=81 => requests_drawn::random(rng, to),
-        82..=92 => requests_drawn::random_read(rng, to),
-        93..=95 => requests_drawn::random_refusal(rng, to),
-        96 => requests_drawn::random_default(rng, to),
+    match rng.below(200) {
+        0..=16 => path_lists::random(rng, to),
+        17..=43 => path_lists::random_segment(rng, to),
+        44..=54 => path_reads::random(rng, to),
+        55..=58 => path_refusals::random(rng, to),
+        59..=136 => requests_drawn::random(rng, to),
+        137..=152 => requests_drawn::random_read(rng, to),
+        153..=156 => requests_drawn::random_refusal(rng, to),
+        157 => requests_drawn::random_default(rng, to),
+        158..=180 => replies_drawn::random(rng, to),
+        181..=188 => replies_drawn::random_read(rng, to),
+        189..=191 => replies_drawn::random_refusal(rng, to),
+        192 => replies_drawn::random_routing(rng, to),
+        193..=195 => envelopes::random(rng, to),
         _ => lines::random(rng, to),
     }
 }

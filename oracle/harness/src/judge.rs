@@ -4,6 +4,8 @@
 //! This file has the lines and their fields; each group of operations has a file below it.
 
 mod paths;
+mod reader;
+mod replies;
 mod requests;
 
 use std::fmt::Write;
@@ -12,6 +14,8 @@ use std::fmt::Write;
 const LONGEST: usize = 600_000;
 /// Longest lent output.
 const MOST_ROOM: u32 = 70_000;
+/// A message, a reply or a request record, whole.
+const LONGEST_RECORD: usize = 65_535;
 /// What a lent output holds before the call.
 const FILL: u8 = 0xA5;
 
@@ -57,6 +61,7 @@ fn case(bytes: &[u8]) -> Option<Vec<u8>> {
     match op {
         0x01..=0x07 => paths::case(op, &mut f),
         0x10..=0x15 | 0x18..=0x1B => requests::case(op, &mut f),
+        0x20..=0x27 => replies::case(op, &mut f),
         _ => None,
     }
 }
@@ -75,6 +80,10 @@ impl<'a> Fields<'a> {
     }
     fn u8(&mut self) -> Option<u8> {
         Some(self.take(1)?[0])
+    }
+    /// A byte that may not be more.
+    fn upto(&mut self, most: u8) -> Option<u8> {
+        self.u8().filter(|n| *n <= most)
     }
     fn u16(&mut self) -> Option<u16> {
         let b = self.take(2)?;
@@ -118,6 +127,10 @@ fn writer(bytes: Judged<Vec<u8>>, room: usize) -> Vec<u8> {
         low_first(b.len() as u32)
     }));
     [head, output].concat()
+}
+
+fn two(n: u16) -> Vec<u8> {
+    vec![(n % 256) as u8, (n / 256) as u8]
 }
 
 fn low_first(n: u32) -> Vec<u8> {

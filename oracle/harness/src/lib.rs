@@ -6,6 +6,7 @@ pub mod case;
 pub mod cases;
 pub mod judge;
 pub mod record;
+pub mod refused;
 pub mod rng;
 pub mod run;
 pub mod tally;
@@ -42,8 +43,14 @@ pub fn bytes_of<T: Encode>(v: &T) -> Vec<u8> {
 }
 
 thread_local!(static LAST: std::cell::RefCell<String> = const { std::cell::RefCell::new(String::new()) });
+thread_local!(static GUARDED: std::cell::Cell<bool> = const { std::cell::Cell::new(false) });
+/// A panic of the crate's is kept for whoever guards it; one of the harness's own is told as ever.
 pub fn quiet_panics() {
-    std::panic::set_hook(Box::new(|i| {
+    let loud = std::panic::take_hook();
+    std::panic::set_hook(Box::new(move |i| {
+        if !GUARDED.get() {
+            return loud(i);
+        }
         let m = if let Some(s) = i.payload().downcast_ref::<&str>() {
             s.to_string()
         } else if let Some(s) = i.payload().downcast_ref::<String>() {
@@ -57,7 +64,10 @@ pub fn quiet_panics() {
 }
 /// Ok(value) or the panic's text
 pub fn guard<T>(f: impl FnOnce() -> T) -> Result<T, String> {
-    catch_unwind(AssertUnwindSafe(f)).map_err(|_| LAST.with(|l| l.borrow().clone()))
+    let outer = GUARDED.replace(true);
+    let done = catch_unwind(AssertUnwindSafe(f)).map_err(|_| LAST.with(|l| l.borrow().clone()));
+    GUARDED.set(outer);
+    done
 }
 
 /// the sending side: keeps the encoded request, answers with a canned reply

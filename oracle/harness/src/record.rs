@@ -2,8 +2,11 @@
 //! that is the judge's. Neither holds anything that our program said.
 
 mod crate_list;
+mod crate_replies;
 mod crate_requests;
+mod our_envelopes;
 mod our_list;
+mod our_replies;
 mod our_request_reads;
 mod our_requests;
 
@@ -19,18 +22,22 @@ const LIST_2: &str = "# List 2";
 
 const HEAD_1: &str = ": the answers of the Rust crate rseip-cip 0.2.1.
 # Made by `sh oracle/compare.sh PAGES --record`: the crate's pages, unchanged, in a release build, were asked each
-# case and an answer line was made from the bytes and the count they gave. No program of ours had a part in it.
+# case and an answer line was made from the bytes and the count they gave, or from the fields that they read and the
+# place where they stopped. No program of ours had a part in it.
 # The choice is the harness's and always the same; what is drawn by chance has the seed 2021.
-# What rests on the stand-in for rseip_core and not on the pages: that String is UTF-8, the order of IntoIter, and that
-# Bytes (the data of a message) are written as they lie.
+# What rests on the stand-in for rseip_core and not on the pages: that String is UTF-8, the order of IntoIter, that
+# Bytes (the data of a message) are written as they lie, and that the numbers of a reply are read low byte first.
 # Operations 01 to 04 and 10 to 15; the crate has no reader of these, no refusal and no lent output (the A5 after the
 # bytes is ours). The default Forward Open's serial is the case's, where the crate draws one by chance.
+# Operations 20 to 22 and 27; the crate has no writer of replies. Starts are counted from where its reader stood. A
+# failure is told to be a routing error exactly where the crate's is_routing_error says so.
 ";
 
 const HEAD_2: &str = ": ours. No Rust gave these answers.
 # Made by the same command: oracle/harness/src/judge.rs answered each, which is written from document 01 and from
 # docs/ANSWERS.md, apart from the program that is asked. Refusals and their order, the readers, symbols that no
-# Rust String holds, an Unconnected Send of what is no message, and lines that are no case.
+# Rust String holds, an Unconnected Send of what is no message, the writers of replies, a failure that is told otherwise
+# than the crate decides, the envelope, and lines that are no case. R1 to R7 and E1 to E4 are rows of docs/DIFFERENCES.md.
 ";
 
 /// The text of `stdin`, as it grows.
@@ -57,6 +64,7 @@ pub fn write(folder: &str) -> Result<()> {
     s.0.extend([LIST_1, HEAD_1].concat().bytes());
     crate_list::write(&mut s);
     crate_requests::write(&mut s);
+    crate_replies::write(&mut s);
     let crate_part = s.0.len();
     s.0.extend([LIST_2, HEAD_2].concat().bytes());
     our_list::write(&mut s);

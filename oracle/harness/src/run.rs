@@ -122,7 +122,8 @@ fn run_whole(program: &str, script: &[u8], tally: &mut Tally) -> Vec<u8> {
     ours
 }
 
-fn judge_case(case: &Case, ours: &[u8], tally: &mut Tally) {
+/// Holds one answer of ours against the crate and the judge.
+pub fn judge_case(case: &Case, ours: &[u8], tally: &mut Tally) {
     let line = &case.line;
     let judged = judge::line(line).expect("a line with no answer among the cases").into_bytes();
     match &case.truth {
@@ -163,6 +164,16 @@ fn judge_case(case: &Case, ours: &[u8], tally: &mut Tally) {
                 let same = again.as_ref() == Ok(&r.input);
                 tally.same(Source::Crate, line, same, || format!("of what was read it writes {again:02X?}"), ours);
             }
+        }
+        Truth::Written(given) => {
+            tally.add(Source::Judge, line, &judged, ours);
+            if let Some(read) = ask_crate::replies::read_back(given, ours) {
+                tally.same(Source::Crate, line, read.is_ok(), || format!("of what was written it reads {read:?}"), ours);
+            }
+        }
+        Truth::Beside(beside) => {
+            tally.add(Source::Judge, line, &judged, ours);
+            tally.beside(line, *beside, &judged);
         }
         Truth::Judge => tally.add(Source::Judge, line, &judged, ours),
     }

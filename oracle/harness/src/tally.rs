@@ -1,5 +1,7 @@
 //! Counts, and the differing cases that are shown.
 
+use crate::ask_crate::replies::Beside;
+use crate::refused::Refused;
 use std::collections::BTreeMap;
 
 #[derive(Clone, Copy, PartialEq, Eq)]
@@ -23,6 +25,8 @@ pub struct Tally {
     /// by operation: compared, judged
     by_op: BTreeMap<&'static str, (u64, u64)>,
     shown: Vec<(usize, String)>,
+    refused: Refused,
+    show_refused: bool,
 }
 
 impl Tally {
@@ -37,7 +41,14 @@ impl Tally {
             broken: false,
             by_op: BTreeMap::new(),
             shown: vec![],
+            refused: Refused::default(),
+            show_refused: false,
         }
+    }
+
+    /// The report shows what the crate did where we refuse, too.
+    pub fn show_refused(&mut self) {
+        self.show_refused = true;
     }
 
     pub fn add(&mut self, from: Source, line: &[u8], want: &[u8], ours: &[u8]) {
@@ -73,6 +84,17 @@ impl Tally {
         }
     }
 
+    /// The crate was asked beside the judge, and its answer is not to be compared: a reply that we refuse is counted by
+    /// kind. One that the judge accepts is refused by the crate only where we are told otherwise than it decides.
+    pub fn beside(&mut self, line: &[u8], beside: Beside, judge_says: &[u8]) {
+        let number = std::str::from_utf8(judge_says).ok().and_then(|t| u8::from_str_radix(t.get(..2)?, 16).ok());
+        match number {
+            Some(0) if beside.told_alike => self.documents(line, format!("{:?}", beside.did).as_bytes(), judge_says),
+            Some(0) | None => {}
+            Some(n) => self.refused.add((operation(line), n, beside), line),
+        }
+    }
+
     /// The run can't go on, or did not end as it should.
     pub fn broken(&mut self, what: &str, at: &[u8]) {
         self.broken = true;
@@ -100,6 +122,9 @@ impl Tally {
         for (_, text) in &self.shown {
             println!("{text}");
         }
+        if self.show_refused {
+            self.refused.print(printable);
+        }
         for (op, (compared, judged)) in &self.by_op {
             println!("operation {op}: {compared} compared, {judged} judged");
         }
@@ -108,14 +133,21 @@ impl Tally {
         }
         println!("{} judged, {} differ", self.judged, self.judge_differ);
         println!("{} compared, {} differ", self.compared, self.crate_differ);
-        !self.broken && self.crate_differ + self.judge_differ + self.documents_differ == 0
+        !self.broken && self.differ() == 0
+    }
+
+    /// How many cases differ, from whomever.
+    pub fn differ(&self) -> u64 {
+        self.crate_differ + self.judge_differ + self.documents_differ
     }
 }
 
 /// The operation of a line; a later landing adds its own.
 fn operation(line: &[u8]) -> &'static str {
-    const KNOWN: [&str; 17] =
-        ["01", "02", "03", "04", "05", "06", "07", "10", "11", "12", "13", "14", "15", "18", "19", "1A", "1B"];
+    const KNOWN: [&str; 25] = [
+        "01", "02", "03", "04", "05", "06", "07", "10", "11", "12", "13", "14", "15", "18", "19", "1A", "1B", "20", "21", "22",
+        "23", "24", "25", "26", "27",
+    ];
     KNOWN.into_iter().find(|op| line.starts_with(op.as_bytes())).unwrap_or("none")
 }
 

@@ -1,18 +1,25 @@
-//! compare [--seed S] [--count N] [--answers PROGRAM]     asks the program, the crate and the judge
-//! compare --record FOLDER                                writes FOLDER/stdin and FOLDER/stdout
-//! compare --recorded FOLDER                              asks the crate and the judge again for what stands there
+//! compare [--seed S] [--count N] [--answers PROGRAM] [--refused]
+//!                                asks the program, the crate and the judge
+//! compare --record FOLDER        writes FOLDER/stdin and FOLDER/stdout
+//! compare --recorded FOLDER      asks the crate and the judge again for what stands there
+//! With --refused the counts come behind a table of what the crate did with the replies that we refuse.
 //! The last line is `N compared, D differ`; the status is 1 where anything differs.
 
 use harness::tally::Tally;
 use harness::{record, run};
 
 fn main() {
+    harness::quiet_panics();
     let mut seed = 1;
     let mut count = 1_000_000;
     let mut answers = "target/bin/answers".to_string();
-    let (mut to, mut from) = (None, None);
+    let (mut to, mut from, mut refused) = (None, None, false);
     let mut args = std::env::args().skip(1);
     while let Some(a) = args.next() {
+        if a == "--refused" {
+            refused = true;
+            continue;
+        }
         let Some(value) = args.next() else { usage(&a) };
         let number = || value.parse().unwrap_or_else(|_| usage(&value));
         match a.as_str() {
@@ -25,6 +32,9 @@ fn main() {
         }
     }
     let mut tally = Tally::new(if from.is_some() { "recorded" } else { "answers" });
+    if refused {
+        tally.show_refused();
+    }
     if let Some(folder) = to {
         record::write(&folder).unwrap_or_else(|e| fail(&format!("{folder}: {e}")));
         return;
@@ -43,7 +53,7 @@ fn main() {
 }
 
 fn usage(at: &str) -> ! {
-    fail(&format!("{at}? compare [--seed S] [--count N] [--answers PROGRAM] | --record FOLDER | --recorded FOLDER"))
+    fail(&format!("{at}? compare [--seed S] [--count N] [--answers PROGRAM] [--refused] | --record FOLDER | --recorded FOLDER"))
 }
 
 fn fail(text: &str) -> ! {

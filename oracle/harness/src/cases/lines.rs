@@ -2,8 +2,9 @@
 //! inputs with lines that have none are in scripts.rs.
 
 use super::path_lists::{any_list, scattered};
-use super::{requests, requests_drawn, Case, Sink, Truth};
+use super::{envelopes, replies, replies_drawn, requests, requests_drawn, Case, Sink, Truth};
 use crate::ask_crate;
+use crate::case::replies::Reply;
 use crate::case::requests::{default_line, Record, Request};
 use crate::case::*;
 use crate::rng::Rng;
@@ -15,7 +16,7 @@ pub fn judged(to: &mut Sink, line: Vec<u8>) {
     to(Case { line, truth: Truth::Judge });
 }
 
-/// A good line of each operation; that of 15 is too short for what is done with these.
+/// A good line of each operation; those of 15 and 27 are too short for what is done with these.
 pub fn good_lines() -> Vec<Vec<u8>> {
     let (pool, list) = end_to_end(&[plain(SYMBOL, 0, b"Flow1"), plain(ELEMENT, 7, b""), plain(PORT, 15, &[5])]);
     let mut v: Vec<Vec<u8>> = (1..=4)
@@ -33,6 +34,12 @@ pub fn good_lines() -> Vec<Vec<u8>> {
         }
     }
     v.push(default_line(0, 0x1234, 44));
+    for f in [replies::some_open(&[1, 2]), replies::some_close(&[3, 4]), replies::some_failure(2, Some(7))] {
+        v.push(f.line(40));
+        v.extend(f.readers().iter().map(|op| Reply { op: *op, routing: 1, input: f.wire(0, 0) }.line()));
+    }
+    v.push(reader_line(0x20, &[0x8E, 0, 8, 1, 3, 0]));
+    v.extend(envelopes::samples().iter().skip(1).step_by(2).map(|e| reader_line(0x26, &e.wire())));
     v
 }
 
@@ -164,10 +171,16 @@ pub fn random(rng: &mut Rng, to: &mut Sink) {
     plain.truncate(5);
     let (pool, list) = scattered(rng, &plain);
     let room = rng.below(50) as u32;
-    let line = if rng.once_in(2) {
-        Writer { op: rng.pick(&[2, 4]), pool, list, room }.line()
-    } else {
-        Request { head: requests_drawn::any_head(rng), pool, list, room }.line()
+    let line = match rng.below(4) {
+        0 => Writer { op: rng.pick(&[2, 4]), pool, list, room }.line(),
+        1 | 2 => Request { head: requests_drawn::any_head(rng), pool, list, room }.line(),
+        _ => {
+            let f = replies_drawn::any_forward(rng);
+            match rng.below(4) {
+                0 => f.line(room),
+                op => Reply { op: 0x1F + op as u8, routing: rng.below(2) as u8, input: f.wire(0, 0) }.line(),
+            }
+        }
     };
     let at = rng.below(line.len() as u64) as usize;
     judged(

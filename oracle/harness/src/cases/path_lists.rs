@@ -73,10 +73,11 @@ pub fn single(to: &mut Sink, p: &Plain) {
 /// A list: its size, written into each of the rooms (added to its size), and read back.
 fn whole(to: &mut Sink, list: &[Plain], more: &[i64]) {
     let (pool, segs) = end_to_end(list);
-    over(to, list, pool, segs, more)
+    over(to, list, (pool, segs), more, true);
 }
 
-fn over(to: &mut Sink, list: &[Plain], pool: Vec<u8>, segs: Vec<Seg>, more: &[i64]) {
+/// The same over a pool that was lent, read back or not.
+fn over(to: &mut Sink, list: &[Plain], (pool, segs): (Vec<u8>, Vec<Seg>), more: &[i64], back: bool) {
     let wrote = ask_crate::list(list).and_then(Result::ok);
     let size = wrote.as_ref().map_or(0, |b| b.len() as i64);
     let mut w = Writer { op: 2, pool, list: segs, room: 0 };
@@ -86,7 +87,7 @@ fn over(to: &mut Sink, list: &[Plain], pool: Vec<u8>, segs: Vec<Seg>, more: &[i6
         w.room = (size + m).clamp(0, 70_000) as u32;
         ask(to, &w);
     }
-    if let Some(input) = wrote {
+    if let (true, Some(input)) = (back, wrote) {
         read_back(to, list, &input);
     }
 }
@@ -163,7 +164,7 @@ fn long_lists(to: &mut Sink) {
         let list = vec![p.clone(); 127];
         // one part of the pool stands for all: the line stays short, the output is 33 kB
         let segs = vec![Seg { kind: p.kind, number: p.number, start: 0, len: p.bytes.len() as u32 }; 127];
-        over(to, &list, p.bytes.clone(), segs, &[-1, 0, 1]);
+        over(to, &list, (p.bytes.clone(), segs), &[-1, 0, 1], true);
         whole(to, &list, &[0]);
     }
     // rooms and starts that take more than 16 bits
@@ -249,9 +250,10 @@ pub fn scattered(rng: &mut Rng, list: &[Plain]) -> (Vec<u8>, Vec<Seg>) {
     (pool, segs)
 }
 
+/// A list, mostly in the crate's domain; every other one is read back.
 pub fn random(rng: &mut Rng, to: &mut Sink) {
     let list = any_list(rng);
-    let (pool, segs) = scattered(rng, &list);
+    let lent = scattered(rng, &list);
     let more = match rng.below(400) {
         0..=99 => -1,
         100..=149 => 1,
@@ -261,7 +263,8 @@ pub fn random(rng: &mut Rng, to: &mut Sink) {
         180 => rng.below(1_000) as i64,
         _ => 0,
     };
-    over(to, &list, pool, segs, &[more]);
+    let back = rng.once_in(2);
+    over(to, &list, lent, &[more], back);
 }
 
 pub fn random_segment(rng: &mut Rng, to: &mut Sink) {

@@ -12,7 +12,7 @@ use crate::case::*;
 use crate::rng::Rng;
 
 /// Small, around a bit, or any.
-fn number(rng: &mut Rng, bits: u64) -> u32 {
+pub fn number(rng: &mut Rng, bits: u64) -> u32 {
     let most = (1u64 << bits) - 1;
     match rng.below(4) {
         0 => rng.below(300).min(most) as u32,

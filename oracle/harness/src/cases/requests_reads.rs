@@ -1,6 +1,7 @@
 //! Operations 18 to 1B on inputs that no writer made: all short ones, records with one thing changed, with two, cut
 //! short, with more behind them, and longer than a record may be.
 
+use super::damage::{every_change, every_pair, Fault};
 use super::path_lists::link;
 use super::path_reads::near_misses;
 use super::requests::*;
@@ -14,7 +15,7 @@ pub fn fixed(to: &mut Sink) {
     short(to);
     for (head, good) in samples() {
         one_change(to, &head, &good);
-        two_changes(to, &head, &good);
+        every_pair(&faults(&head, &good), &good, |d| ask(to, &head, d));
         every_path(to, &head);
         // for every reader, and both forms of 19
         for op in 0x18..=0x1B {
@@ -83,41 +84,11 @@ fn short(to: &mut Sink) {
     }
 }
 
-/// Every byte as every other, taken out and doubled; every front; one to three bytes more.
+/// Every change of one byte, every front, one to three bytes more.
 fn one_change(to: &mut Sink, head: &Head, good: &[u8]) {
-    for i in 0..good.len() {
-        for x in 1..=255 {
-            let mut d = good.to_vec();
-            d[i] ^= x;
-            ask(to, head, &d);
-        }
-        ask(to, head, &[&good[..i], &good[i + 1..]].concat());
-        ask(to, head, &[&good[..=i], &good[i..]].concat());
-        ask(to, head, &good[..i]);
-    }
+    every_change(good, |d| ask(to, head, d));
     for more in [&[0][..], &[1], &[0, 0], &[0x20, 1], &[0, 0, 0]] {
         ask(to, head, &[good, more].concat());
-    }
-}
-
-/// One thing that is wrong with a record.
-#[derive(Clone, Copy)]
-pub enum Fault {
-    Xor(usize, u8),
-    Set(usize, u8),
-    Cut(usize),
-    More,
-}
-
-impl Fault {
-    pub fn put(self, d: &mut Vec<u8>) {
-        match self {
-            Fault::Xor(at, x) if at < d.len() => d[at] ^= x,
-            Fault::Set(at, x) if at < d.len() => d[at] = x,
-            Fault::Cut(n) => d.truncate(d.len().saturating_sub(n)),
-            Fault::More => d.push(0x77),
-            _ => {}
-        }
     }
 }
 
@@ -152,19 +123,6 @@ pub fn faults(head: &Head, good: &[u8]) -> Vec<Fault> {
     let path = path_place(head);
     v.extend([Set(path, 0xFF), Set(path, 0x21), Set(path + 1, 1)]);
     v
-}
-
-/// Every fault, and every pair of them: which is said?
-fn two_changes(to: &mut Sink, head: &Head, good: &[u8]) {
-    let all = faults(head, good);
-    for a in &all {
-        for b in &all {
-            let mut d = good.to_vec();
-            a.put(&mut d);
-            b.put(&mut d);
-            ask(to, head, &d);
-        }
-    }
 }
 
 /// Paths that are not the one form, as a part behind a size; with bytes behind them that could have completed them.

@@ -3,10 +3,8 @@
 mod readers;
 
 use super::paths::{all, list};
-use super::{answer, low_first, writer, Fields, Judged};
+use super::{answer, low_first, two, writer, Fields, Judged, LONGEST_RECORD};
 
-/// A message or a request record, whole.
-const LONGEST_RECORD: usize = 65_535;
 /// A path behind a size byte.
 const LONGEST_PATH: usize = 254;
 const MOST_SMALL_SIZE: u16 = 511;
@@ -101,12 +99,7 @@ fn record(op: u8, f: &mut Fields) -> Option<Judged<Vec<u8>>> {
 // ---- the fields of a line ----
 
 fn form(f: &mut Fields) -> Option<Form> {
-    Some([Form::Small, Form::Large][upto(1, f)? as usize])
-}
-
-/// A byte that may not be more.
-fn upto(most: u8, f: &mut Fields) -> Option<u8> {
-    f.u8().filter(|n| *n <= most)
+    Some([Form::Small, Form::Large][f.upto(1)? as usize])
 }
 
 /// POOL and LIST: the path's bytes, or why there are none. Count, segments, then the limit behind a size byte.
@@ -117,7 +110,7 @@ fn path(f: &mut Fields) -> Option<Judged<Vec<u8>>> {
 }
 
 fn par(f: &mut Fields) -> Option<Par> {
-    Some(Par { size: f.u16()?, variable: upto(1, f)?, priority: upto(3, f)?, kind: upto(2, f)?, owner: upto(1, f)? })
+    Some(Par { size: f.u16()?, variable: f.upto(1)?, priority: f.upto(3)?, kind: f.upto(2)?, owner: f.upto(1)? })
 }
 
 fn open(f: &mut Fields) -> Option<Open> {
@@ -134,9 +127,9 @@ fn open(f: &mut Fields) -> Option<Open> {
         o_t: par(f)?,
         t_o_rpi: f.u32()?,
         t_o: par(f)?,
-        direction: upto(1, f)?,
-        trigger: upto(2, f)?,
-        class: upto(6, f)?,
+        direction: f.upto(1)?,
+        trigger: f.upto(2)?,
+        class: f.upto(6)?,
     })
 }
 
@@ -158,10 +151,6 @@ fn whole(record: Vec<u8>) -> Judged<Vec<u8>> {
     } else {
         Ok(record)
     }
-}
-
-fn two(n: u16) -> Vec<u8> {
-    vec![(n % 256) as u8, (n / 256) as u8]
 }
 
 fn open_record(o: &Open, form: Form, path: Vec<u8>) -> Judged<Vec<u8>> {

@@ -12,6 +12,8 @@ pub fn write(s: &mut Script) {
     order(s);
     readers(s);
     super::our_requests::write(s);
+    super::our_replies::write(s);
+    super::our_envelopes::write(s);
     no_case(s);
     freedoms(s);
 }

@@ -4,6 +4,7 @@ use super::our_requests::read;
 use super::Script;
 use crate::case::requests::{Head, Record};
 use crate::case::*;
+use crate::cases::damage::some_pairs;
 use crate::cases::requests::{heads, some_message, some_open, GET};
 use crate::cases::requests_fields::short_path;
 use crate::cases::requests_reads::{faults, samples, size_byte, written};
@@ -155,13 +156,7 @@ fn message_sizes(s: &mut Script) {
 fn two_faults(s: &mut Script) {
     s.group("readers of requests: two things wrong, of which the first in wire order is said");
     for (head, good) in samples()[..7].iter().skip(1) {
-        let all = faults(head, good);
-        for i in 0..all.len() {
-            let mut d = good.clone();
-            all[i].put(&mut d);
-            all[(i * 5 + 3) % all.len()].put(&mut d);
-            read(s, head, &d);
-        }
+        some_pairs(&faults(head, good), good, 1, |d| read(s, head, d));
     }
 }
 

@@ -53,6 +53,9 @@ pub fn run(t: &mut T) {
     t.note("s=128, all 256 present (doc: 6)", header(&[&unhex("8E000180")[..], &[0; 256]].concat()));
     t.note("s=129, two present (doc: 1)", header(&unhex("8E000181 0000")));
     t.note("s=255, none present (doc: 1)", header(&unhex("8E0001FF")));
+    t.note("8E 00 08 00 AA (failed, with data)", header(&unhex("8E000800AA")));
+    let long = header(&[&unhex("8E000000")[..], &[0; 65_532]].concat());
+    t.note("65,536 bytes (doc: 3)", format!("{}.. len {}", &long[..45], long.len()));
     let mr = |b: &[u8]| match guard(|| MessageReply::<BytesHolder>::decode(dec(b))) {
         Ok(Ok(m)) => format!(
             "Ok {:02X} {:?} {:02X?} remaining_path_size {:?}",
@@ -64,6 +67,7 @@ pub fn run(t: &mut T) {
         Ok(Err(e)) => format!("Err {:?}", e),
         Err(p) => format!("PANIC {}", p),
     };
+    t.note("MessageReply<bytes> of 8E 00 08 00 AA", mr(&unhex("8E000800AA")));
     t.note("MessageReply<bytes> of 8E 00 08 01 03 00 AA BB", mr(&unhex("8E0008010300AABB")));
     t.note("MessageReply<bytes> of CE 00 02 00 .. 9 bytes", mr(&unhex("CE000200 3412 FF00 FFFFFFFF 03")));
     t.note("MessageReply<bytes> of 8E 00 00 00 AA BB", mr(&unhex("8E000000AABB")));
@@ -97,6 +101,11 @@ pub fn run(t: &mut T) {
     t.note("close success, 9 bytes (doc: 1)", fclose(&w("00")));
     t.note("close success, 1 word, whole", fclose(&w("01 00 AA BB")));
     t.note("close success, 1 word, one byte short (doc: 1)", fclose(&w("01 00 AA")));
+    t.note("close success, 1 word, two short (doc: 1)", fclose(&w("01 00")));
+    t.note("close fail 2, 9 bytes and 8 (doc: 1)", {
+        let whole = unhex("CE000200 3412 FF00 FFFFFFFF 03");
+        format!("{}; {}", fclose(&whole), fclose(&whole[..12]))
+    });
     t.note("close fail 8", fclose(&unhex("CE000101 0701 3412 FF00 FFFFFFFF")));
 
     println!("\n== envelope (rests on the STAND-IN CommonPacketIter)");

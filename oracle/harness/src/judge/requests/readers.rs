@@ -3,8 +3,8 @@
 //! field, is in DECISIONS 2 to 5.
 
 use super::super::paths::read_all;
-use super::{Form, Judged, LONGEST_PATH, LONGEST_RECORD};
-use crate::judge::low_first;
+use super::super::reader::{Part, Reader};
+use super::{Form, Judged, LONGEST_PATH};
 
 /// Service, size in words, path, and the rest is data.
 pub fn message(input: &[u8]) -> Judged<Vec<u8>> {
@@ -12,8 +12,7 @@ pub fn message(input: &[u8]) -> Judged<Vec<u8>> {
     let service = r.number(1)? as u8;
     let size = r.path_size()?;
     let path = r.path(size)?;
-    let data = Part { start: r.at, len: input.len() - r.at };
-    Ok([vec![service], path.fields(), data.fields()].concat())
+    Ok([vec![service], path.fields(), r.rest().fields()].concat())
 }
 
 pub fn open(form: Form, input: &[u8]) -> Judged<Vec<u8>> {
@@ -98,47 +97,7 @@ pub fn send(input: &[u8]) -> Judged<Vec<u8>> {
     Ok([out, message.fields(), path.fields()].concat())
 }
 
-struct Part {
-    start: usize,
-    len: usize,
-}
-
-impl Part {
-    fn fields(&self) -> Vec<u8> {
-        [low_first(self.start as u32), low_first(self.len as u32)].concat()
-    }
-}
-
-struct Reader<'a> {
-    t: &'a [u8],
-    at: usize,
-}
-
-impl<'a> Reader<'a> {
-    /// The limit on the whole input comes first.
-    fn new(t: &'a [u8]) -> Judged<Self> {
-        if t.len() > LONGEST_RECORD {
-            Err(3)
-        } else {
-            Ok(Reader { t, at: 0 })
-        }
-    }
-    fn part(&mut self, len: usize) -> Judged<Part> {
-        let start = self.at;
-        if self.t.len() - start < len {
-            return Err(1);
-        }
-        self.at += len;
-        Ok(Part { start, len })
-    }
-    /// Fields that are never judged; as they stand, since a line too has its numbers low byte first.
-    fn plain(&mut self, len: usize) -> Judged<&'a [u8]> {
-        let p = self.part(len)?;
-        Ok(&self.t[p.start..self.at])
-    }
-    fn number(&mut self, len: usize) -> Judged<u32> {
-        Ok(self.plain(len)?.iter().rev().fold(0, |v, b| v * 256 + u32::from(*b)))
-    }
+impl Reader<'_> {
     fn priority(&mut self) -> Judged<u8> {
         let byte = self.number(1)?;
         if byte > 15 {
@@ -169,12 +128,5 @@ impl<'a> Reader<'a> {
         let p = self.part(len)?;
         read_all(&self.t[p.start..self.at])?;
         Ok(p)
-    }
-    fn end(&self) -> Judged<()> {
-        if self.at < self.t.len() {
-            Err(8)
-        } else {
-            Ok(())
-        }
     }
 }
