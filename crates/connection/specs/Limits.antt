@@ -1,4 +1,4 @@
--- The numbers that bound requests, each once; `src/lib.rt` has each as a `const`. Document 01, "Numbers that bound it".
+-- The numbers that bound requests and replies, each once; `src/lib.rt` has each as a `const`. Document 01, "Numbers that bound it".
 -- Assumes nothing: these are definitions.
 use Prim.Native.Nat.{ℕ}
 use mathlib.Core.Bool.{Bool, true, false}
@@ -7,9 +7,13 @@ use mathlib.Core.Bool.{Bool, true, false}
 abbrev pub maxPath : ℕ
 maxPath = 254
 
--- bytes of a message or a request record
+-- bytes of a message, a reply or a request record
 abbrev pub maxRecord : ℕ
 maxRecord = 65535
+
+-- bytes of application data in a reply
+abbrev pub maxAppData : ℕ
+maxAppData = 510
 
 -- bytes of a connection's data, small and large
 abbrev pub sizeLimit : Bool → ℕ

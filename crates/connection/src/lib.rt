@@ -8,8 +8,11 @@ ghost use Rattle.connection.specs.Defaults.{defaultParameters, defaultOp
 // Bytes of a path behind a size byte.
 pub const MAX_PATH: usize = 254;
 
-// Bytes of a message or a request record.
+// Bytes of a message, a reply or a request record.
 pub const MAX_RECORD: usize = 65535;
+
+// Bytes of application data in a reply.
+pub const MAX_APP_DATA: usize = 510;
 
 // Bytes of a connection's data in a small Forward Open, and in a large one.
 pub const MAX_SMALL_SIZE: u16 = 511;
@@ -65,7 +68,7 @@ pub enum VariableLength {
     Variable,
 }
 
-// ---- records; a path stands beside its record, as a list to write and as a part of the input when read
+// ---- records; a path stands beside its record, as a list to write and as a part of the input when read, and so does application data, as bytes
 
 pub struct ConnectionParameters {
     // more than one owner may make the connection
@@ -122,17 +125,12 @@ pub struct ForwardOpenSuccess {
     // actual packet intervals, microseconds
     pub o_t_api: u32,
     pub t_o_api: u32,
-    // application data: a part of the reply
-    pub app_start: usize,
-    pub app_len: usize,
 }
 
 pub struct ForwardCloseSuccess {
     pub connection_serial_number: u16,
     pub originator_vendor_id: u16,
     pub originator_serial_number: u32,
-    pub app_start: usize,
-    pub app_len: usize,
 }
 
 // In words; only routing errors have one.

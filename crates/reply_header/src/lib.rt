@@ -1,0 +1,137 @@
+// A reply's status and header. Beside it in rseip-cip: src/status.rs, `MessageReply` in src/message.rs, and `decode_service_and_status` in
+// src/codec/decode/message_reply.rs.
+use wire::Refusal;
+use wire::byte_at;
+use wire::u16_at;
+ghost use mathlib.Core.Path.{_≡_};
+ghost use Rattle.reply_header.specs.Statuses.{isOk, routingWord, isRoutingError};
+ghost use Rattle.reply_header.specs.Headers.{statusAt, readHeader, paperReply};
+
+// Words of extended status; its twin stands in specs/Headers.antt.
+const MOST_WORDS: u8 = 1;
+
+// One word, or none.
+pub enum ExtendedStatus {
+    Absent,
+    Word(u16),
+}
+
+pub struct Status {
+    pub general: u8,
+    pub extended: ExtendedStatus,
+}
+
+// Service and status, and the part of the reply that is data.
+pub struct MessageReply {
+    pub reply_service: u8,
+    pub status: Status,
+    pub data_start: usize,
+    pub data_len: usize,
+}
+
+pub enum ReplyRead {
+    Found(MessageReply),
+    Refused(Refusal),
+}
+
+// ---- what a status says
+
+// Whether the request was served.
+pub fn is_ok(status: Status) -> bool
+    ensures { λ r. ⌜ r ≡ isOk status ⌝ }
+{
+    if status.general == 0 {
+        return true;
+    }
+    false
+}
+
+// The words that, behind general status 1, tell of the way and not of the target.
+fn is_routing_word(word: u16) -> bool
+    ensures { λ r. ⌜ r ≡ routingWord word ⌝ }
+{
+    if word == 0x0204 {
+        return true;
+    }
+    if word == 0x0311 {
+        return true;
+    }
+    if word == 0x0312 {
+        return true;
+    }
+    if word == 0x0315 {
+        return true;
+    }
+    false
+}
+
+// Whether a Connection Manager's request failed on its way: its failure record then has the size of the path that was left.
+pub fn is_routing_error(status: Status) -> bool
+    ensures { λ r. ⌜ r ≡ isRoutingError status ⌝ }
+{
+    if status.general == 1 {
+        let extended = status.extended;
+        return match extended {
+            ExtendedStatus::Absent => false,
+            ExtendedStatus::Word(word) => is_routing_word(word),
+        };
+    }
+    if status.general == 2 {
+        return true;
+    }
+    if status.general == 4 {
+        return true;
+    }
+    false
+}
+
+// ---- the header: service, a reserved byte, general status, word count, extended words
+
+// The status in a header that was judged.
+fn status_at(s: &[u8]) -> Status
+    ensures { λ r. ⌜ r ≡ statusAt (now (s .entry)) ⌝ }
+{
+    let general = byte_at(s, 2);
+    let words = byte_at(s, 3);
+    if words == 0 {
+        return Status {
+            general,
+            extended: ExtendedStatus::Absent,
+        };
+    }
+    let word = u16_at(s, 4);
+    Status {
+        general,
+        extended: ExtendedStatus::Word(word),
+    }
+}
+
+// Reads a reply's header; what follows it is data.
+pub fn read_reply_header(s: &[u8]) -> ReplyRead
+    ensures { λ r. ⌜ paperReply r ≡ readHeader (now (s .entry)) ⌝ }
+{
+    if connection::MAX_RECORD < s.len() {
+        return ReplyRead::Refused(Refusal::Limit);
+    }
+    if s.len() < 4 {
+        return ReplyRead::Refused(Refusal::Short);
+    }
+    // in a usize: 128 words are 256 bytes
+    let words = byte_at(s, 3);
+    let data_start = 4 + 2 * (words as usize);
+    if s.len() < data_start {
+        return ReplyRead::Refused(Refusal::Short);
+    }
+    if MOST_WORDS < words {
+        return ReplyRead::Refused(Refusal::Words);
+    }
+    let data_len = s.len() - data_start;
+    let reply_service = byte_at(s, 0);
+    let status = status_at(s);
+    ReplyRead::Found(MessageReply {
+        reply_service,
+        status,
+        data_start,
+        data_len,
+    })
+}
