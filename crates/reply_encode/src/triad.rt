@@ -1,0 +1,16 @@
+// What names a connection: its serial number, and its originator's vendor and serial number.
+use wire::put_u16;
+use wire::put_u32;
+ghost use mathlib.Core.Path.{_≡_};
+ghost use Prim.Native.Nat.{_≤_};
+ghost use Rattle.connection_words.specs.Requests.{triad};
+ghost use Rattle.reply_encode.specs.Replies.{withFields};
+
+pub(crate) fn put_triad(out: &mut [u8], at: usize, serial: u16, vendor: u16, originator: u32)
+    requires { ⌜ at ≤ 1000 ⌝ }
+    ensures { λ _. ⌜ now (out .exit) ≡ withFields (now (out .entry)) at (triad serial vendor originator) ⌝ }
+{
+    put_u16(out, at, serial);
+    put_u16(out, at + 2, vendor);
+    put_u32(out, at + 4, originator);
+}
