@@ -1,10 +1,12 @@
 // Answers each case on standard input with one line of hex: docs/ANSWERS.md has the form of both. A line that is no case is answered `bad`.
 mod fields; // fields.rt: the fields of a case
-mod reply; // reply.rt: the bytes of an answer
+mod said; // said.rt: the bytes of an answer
 mod connections; // connections.rt: the fields of a Forward Open
 mod paths; // paths.rt: operations 01 to 07
 mod requests; // requests.rt: operations 10 to 15
 mod request_reads; // request_reads.rt: operations 18 to 1B
+mod reply_reads; // reply_reads.rt: operations 20 to 22 and 26
+mod reply_writes; // reply_writes.rt: operations 23 to 25 and 27
 
 use fields::MAX_ROOM;
 use lines::Case;
@@ -41,6 +43,12 @@ fn ask(case: &[u8], lent: &mut [u8], reply: &mut [u8]) -> usize {
     }
     if op < 0x20 {
         return request_reads::ask(op, case, reply);
+    }
+    if op < 0x23 || op == 0x26 {
+        return reply_reads::ask(op, case, reply);
+    }
+    if op < 0x28 {
+        return reply_writes::ask(op, case, lent, reply);
     }
     0
 }

@@ -1,7 +1,7 @@
 // Operations 01 to 07: segments and paths.
 use crate::fields;
 use crate::fields::Taken;
-use crate::reply;
+use crate::said;
 use epath::Path;
 use epath::Segment;
 use epath::SegmentRead;
@@ -14,7 +14,7 @@ fn size_segment(case: &[u8], answer: &mut [u8]) -> usize {
         return 0;
     }
     match fields::segment_at(case, at) {
-        Taken::Good(x) => reply::sized(epath::segment_size(x, fields::bytes(case, pool)), answer),
+        Taken::Good(x) => said::sized(epath::segment_size(x, fields::bytes(case, pool)), answer),
         Taken::Bad => 0,
     }
 }
@@ -26,12 +26,12 @@ fn size_path(case: &[u8], answer: &mut [u8]) -> usize {
         return 0;
     }
     let path = fields::path(case, list);
-    reply::sized(epath::path_size(path, fields::bytes(case, pool)), answer)
+    said::sized(epath::path_size(path, fields::bytes(case, pool)), answer)
 }
 
 fn write_one(x: Segment, pool: &[u8], out: &mut [u8], answer: &mut [u8]) -> usize {
     let w = epath::write_segment(x, pool, out);
-    reply::wrote(w, out, answer)
+    said::wrote(w, out, answer)
 }
 
 // A room past the longest that can be asked for is more than lent has.
@@ -42,7 +42,7 @@ fn write_segment(case: &[u8], lent: &mut [u8], answer: &mut [u8]) -> usize {
     if lent.len() < room {
         return 0;
     }
-    reply::fill(lent, room);
+    said::fill(lent, room);
     match fields::segment_at(case, at) {
         Taken::Good(x) => write_one(x, fields::bytes(case, pool), &mut lent[0..room], answer),
         Taken::Bad => 0,
@@ -51,7 +51,7 @@ fn write_segment(case: &[u8], lent: &mut [u8], answer: &mut [u8]) -> usize {
 
 fn write_all(p: Path, pool: &[u8], out: &mut [u8], answer: &mut [u8]) -> usize {
     let w = epath::write_path(p, pool, out);
-    reply::wrote(w, out, answer)
+    said::wrote(w, out, answer)
 }
 
 fn write_path(case: &[u8], lent: &mut [u8], answer: &mut [u8]) -> usize {
@@ -61,7 +61,7 @@ fn write_path(case: &[u8], lent: &mut [u8], answer: &mut [u8]) -> usize {
     if lent.len() < room {
         return 0;
     }
-    reply::fill(lent, room);
+    said::fill(lent, room);
     let path = fields::path(case, list);
     write_all(path, fields::bytes(case, pool), &mut lent[0..room], answer)
 }
@@ -69,7 +69,7 @@ fn write_path(case: &[u8], lent: &mut [u8], answer: &mut [u8]) -> usize {
 // A slot of the list, or one past its end.
 fn put_slot(x: Segment, is_listed: bool, answer: &mut [u8], at: usize) {
     if is_listed {
-        reply::segment(x, answer, at);
+        said::segment(x, answer, at);
     }
 }
 
@@ -91,21 +91,21 @@ fn read_path(s: &[u8], answer: &mut [u8]) -> usize {
     let found = read.answer;
     match found {
         Counted::Count(_) => list(read.path, answer),
-        Counted::Refused(e) => reply::refused(e, answer),
+        Counted::Refused(e) => said::refused(e, answer),
     }
 }
 
 fn found(x: Segment, n: usize, answer: &mut [u8]) -> usize {
     wire::put_byte(answer, 0, 0);
-    reply::segment(x, answer, 1);
-    reply::put_number(answer, 1 + fields::SEG, n);
+    said::segment(x, answer, 1);
+    said::put_number(answer, 1 + fields::SEG, n);
     5 + fields::SEG
 }
 
 fn read_segment(s: &[u8], answer: &mut [u8]) -> usize {
     match epath::read_segment(s) {
         SegmentRead::Found(x, n) => found(x, n, answer),
-        SegmentRead::Refused(e) => reply::refused(e, answer),
+        SegmentRead::Refused(e) => said::refused(e, answer),
     }
 }
 
@@ -123,7 +123,7 @@ fn read(op: u8, case: &[u8], answer: &mut [u8]) -> usize {
         return read_segment(s, answer);
     }
     if op == 7 {
-        return reply::counted(epath::check_path(s), answer);
+        return said::counted(epath::check_path(s), answer);
     }
     0
 }

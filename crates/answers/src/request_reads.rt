@@ -1,7 +1,7 @@
 // Operations 18 to 1B: requests read.
 use crate::connections;
 use crate::fields;
-use crate::reply;
+use crate::said;
 use connection::ForwardCloseRequest;
 use connection::OpenOptions;
 use connection::UnconnectedSend;
@@ -11,41 +11,32 @@ use request::MessageRequest;
 use request::OpenRead;
 use request::SendRead;
 
-// A part of the input: start and length.
-fn put_part(answer: &mut [u8], at: usize, start: usize, len: usize) {
-    if answer.len() <= at {
-        return;
-    }
-    reply::put_number(answer, at, start);
-    reply::put_number(answer, at + 4, len);
-}
-
 fn message(m: MessageRequest, answer: &mut [u8]) -> usize {
     wire::put_byte(answer, 0, 0);
     wire::put_byte(answer, 1, m.service_code);
-    put_part(answer, 2, m.path_start, m.path_len);
-    put_part(answer, 10, m.data_start, m.data_len);
+    said::put_part(answer, 2, m.path_start, m.path_len);
+    said::put_part(answer, 10, m.data_start, m.data_len);
     18
 }
 
 fn read_message(s: &[u8], answer: &mut [u8]) -> usize {
     match request::read_message(s) {
         MessageRead::Found(m) => message(m, answer),
-        MessageRead::Refused(e) => reply::refused(e, answer),
+        MessageRead::Refused(e) => said::refused(e, answer),
     }
 }
 
 fn open(o: OpenOptions, start: usize, len: usize, answer: &mut [u8]) -> usize {
     wire::put_byte(answer, 0, 0);
     connections::put_open(o, answer);
-    put_part(answer, 1 + connections::OPEN, start, len);
+    said::put_part(answer, 1 + connections::OPEN, start, len);
     9 + connections::OPEN
 }
 
 fn read_open(large: bool, s: &[u8], answer: &mut [u8]) -> usize {
     match request::read_forward_open(large, s) {
         OpenRead::Found(o, start, len) => open(o, start, len, answer),
-        OpenRead::Refused(e) => reply::refused(e, answer),
+        OpenRead::Refused(e) => said::refused(e, answer),
     }
 }
 
@@ -56,14 +47,14 @@ fn close(c: ForwardCloseRequest, start: usize, len: usize, answer: &mut [u8]) ->
     wire::put_u16(answer, 3, c.connection_serial_number);
     wire::put_u16(answer, 5, c.originator_vendor_id);
     wire::put_u32(answer, 7, c.originator_serial_number);
-    put_part(answer, 11, start, len);
+    said::put_part(answer, 11, start, len);
     19
 }
 
 fn read_close(s: &[u8], answer: &mut [u8]) -> usize {
     match request::read_forward_close(s) {
         CloseRead::Found(c, start, len) => close(c, start, len, answer),
-        CloseRead::Refused(e) => reply::refused(e, answer),
+        CloseRead::Refused(e) => said::refused(e, answer),
     }
 }
 
@@ -77,11 +68,11 @@ fn read_send(s: &[u8], answer: &mut [u8]) -> usize {
     match request::read_unconnected_send(s) {
         SendRead::Found(u, from, m, start, len) => {
             put_ticks(u, answer);
-            put_part(answer, 3, from, m);
-            put_part(answer, 11, start, len);
+            said::put_part(answer, 3, from, m);
+            said::put_part(answer, 11, start, len);
             19
         }
-        SendRead::Refused(e) => reply::refused(e, answer),
+        SendRead::Refused(e) => said::refused(e, answer),
     }
 }
 

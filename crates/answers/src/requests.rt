@@ -3,7 +3,7 @@ use crate::connections;
 use crate::fields;
 use crate::fields::ListField;
 use crate::fields::StringField;
-use crate::reply;
+use crate::said;
 use connection::ForwardCloseRequest;
 use connection::OpenOptions;
 use connection::UnconnectedSend;
@@ -32,7 +32,7 @@ fn put_message(
     answer: &mut [u8],
 ) -> usize {
     let w = request::write_message(service, p, pool, data, out);
-    reply::wrote(w, out, answer)
+    said::wrote(w, out, answer)
 }
 
 fn write_message(case: &[u8], lent: &mut [u8], answer: &mut [u8]) -> usize {
@@ -43,7 +43,7 @@ fn write_message(case: &[u8], lent: &mut [u8], answer: &mut [u8]) -> usize {
     if lent.len() < room {
         return 0;
     }
-    reply::fill(lent, room);
+    said::fill(lent, room);
     put_message(
         wire::byte_at(case, 1),
         fields::path(case, list),
@@ -56,7 +56,7 @@ fn write_message(case: &[u8], lent: &mut [u8], answer: &mut [u8]) -> usize {
 
 fn put_open(o: OpenOptions, p: Path, pool: &[u8], out: &mut [u8], answer: &mut [u8]) -> usize {
     let w = request::write_forward_open(o, p, pool, out);
-    reply::wrote(w, out, answer)
+    said::wrote(w, out, answer)
 }
 
 fn write_open(case: &[u8], lent: &mut [u8], answer: &mut [u8]) -> usize {
@@ -69,7 +69,7 @@ fn write_open(case: &[u8], lent: &mut [u8], answer: &mut [u8]) -> usize {
     if !fields::is_flag(wire::byte_at(case, 1)) || !connections::good_open(fixed) {
         return 0;
     }
-    reply::fill(lent, room);
+    said::fill(lent, room);
     put_open(
         connections::open(wire::byte_at(case, 1) == 1, fixed),
         fields::path(case, f.list),
@@ -87,7 +87,7 @@ fn put_close(
     answer: &mut [u8],
 ) -> usize {
     let w = request::write_forward_close(c, p, pool, out);
-    reply::wrote(w, out, answer)
+    said::wrote(w, out, answer)
 }
 
 fn write_close(case: &[u8], lent: &mut [u8], answer: &mut [u8]) -> usize {
@@ -96,7 +96,7 @@ fn write_close(case: &[u8], lent: &mut [u8], answer: &mut [u8]) -> usize {
     if lent.len() < room {
         return 0;
     }
-    reply::fill(lent, room);
+    said::fill(lent, room);
     let c = ForwardCloseRequest {
         priority_time_ticks: wire::byte_at(case, 1),
         timeout_ticks: wire::byte_at(case, 2),
@@ -122,7 +122,7 @@ fn put_send(
     answer: &mut [u8],
 ) -> usize {
     let w = request::write_unconnected_send(u, message, p, pool, out);
-    reply::wrote(w, out, answer)
+    said::wrote(w, out, answer)
 }
 
 fn write_send(case: &[u8], lent: &mut [u8], answer: &mut [u8]) -> usize {
@@ -132,7 +132,7 @@ fn write_send(case: &[u8], lent: &mut [u8], answer: &mut [u8]) -> usize {
     if lent.len() < room {
         return 0;
     }
-    reply::fill(lent, room);
+    said::fill(lent, room);
     let u = UnconnectedSend {
         priority_ticks: wire::byte_at(case, 1),
         timeout_ticks: wire::byte_at(case, 2),
@@ -159,7 +159,7 @@ fn write_default(case: &[u8], lent: &mut [u8], answer: &mut [u8]) -> usize {
     if lent.len() < room || !fields::is_flag(large) {
         return 0;
     }
-    reply::fill(lent, room);
+    said::fill(lent, room);
     let o = default_open(large == 1, wire::u16_at(case, 2));
     let p = request::default_connection_path();
     put_open(o, p, &[], &mut lent[0..room], answer)

@@ -21,6 +21,15 @@ pub(crate) fn put_number(reply: &mut [u8], at: usize, n: usize) {
     wire::put_u32(reply, at, (n % 4294967296) as u32);
 }
 
+// A part of the input: start and length.
+pub(crate) fn put_part(reply: &mut [u8], at: usize, start: usize, len: usize) {
+    if reply.len() <= at {
+        return;
+    }
+    put_number(reply, at, start);
+    put_number(reply, at + 4, len);
+}
+
 pub(crate) fn refused(e: Refusal, reply: &mut [u8]) -> usize {
     wire::put_byte(reply, 0, wire::refusal_number(e));
     1

@@ -1,4 +1,4 @@
--- `answers::reply::fill` is safe and ends. The lent slice keeps its length; the measure is the turns that are left. Assumes nothing.
+-- `answers::said::fill` is safe and ends. The lent slice keeps its length; the measure is the turns that are left. Assumes nothing.
 --: use mathlib.Core.Path.{_≡_}
 --: use Prim.Native.Nat.{_-_}
 --: use lib.ListN.{length}
@@ -7,9 +7,9 @@
 use mathlib.Core.Path.{_≡_}
 use Prim.Native.Nat.{_-_}
 use lib.ListN.{length}
-use Rattle.answers.proofs.reply.fill.Statement.{statement}
+use Rattle.answers.proofs.said.fill.Statement.{statement}
 use borrow.Author.Needs.{needs}
-use Rattle.answers.proofs.reply.fill.Tie as tie
+use Rattle.answers.proofs.said.fill.Tie as tie
 
 abbrev Inv-loop : tie.InvT-loop
 Inv-loop lent₀ room i₀ lent i = length lent ≡ length lent₀

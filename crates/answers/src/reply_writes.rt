@@ -1,0 +1,156 @@
+// Operations 23 to 25 and 27: replies written, and routing errors.
+use crate::fields;
+use crate::said;
+use connection::ForwardCloseSuccess;
+use connection::ForwardOpenSuccess;
+use connection::ForwardRequestFail;
+use connection::RemainingPathSize;
+use reply_header::ExtendedStatus;
+use reply_header::Status;
+
+fn put_open(
+    service: u8,
+    o: ForwardOpenSuccess,
+    data: &[u8],
+    out: &mut [u8],
+    answer: &mut [u8],
+) -> usize {
+    let w = reply::write_forward_open_success(service, o, data, out);
+    said::wrote(w, out, answer)
+}
+
+fn write_open(case: &[u8], lent: &mut [u8], answer: &mut [u8]) -> usize {
+    let data = fields::string(case, 26);
+    let room = fields::room(case, data.next);
+    if lent.len() < room {
+        return 0;
+    }
+    said::fill(lent, room);
+    let o = ForwardOpenSuccess {
+        o_t_connection_id: wire::u32_at(case, 2),
+        t_o_connection_id: wire::u32_at(case, 6),
+        connection_serial_number: wire::u16_at(case, 10),
+        originator_vendor_id: wire::u16_at(case, 12),
+        originator_serial_number: wire::u32_at(case, 14),
+        o_t_api: wire::u32_at(case, 18),
+        t_o_api: wire::u32_at(case, 22),
+    };
+    put_open(
+        wire::byte_at(case, 1),
+        o,
+        fields::bytes(case, data),
+        &mut lent[0..room],
+        answer,
+    )
+}
+
+fn put_close(
+    service: u8,
+    c: ForwardCloseSuccess,
+    data: &[u8],
+    out: &mut [u8],
+    answer: &mut [u8],
+) -> usize {
+    let w = reply::write_forward_close_success(service, c, data, out);
+    said::wrote(w, out, answer)
+}
+
+fn write_close(case: &[u8], lent: &mut [u8], answer: &mut [u8]) -> usize {
+    let data = fields::string(case, 10);
+    let room = fields::room(case, data.next);
+    if lent.len() < room {
+        return 0;
+    }
+    said::fill(lent, room);
+    let c = ForwardCloseSuccess {
+        connection_serial_number: wire::u16_at(case, 2),
+        originator_vendor_id: wire::u16_at(case, 4),
+        originator_serial_number: wire::u32_at(case, 6),
+    };
+    put_close(
+        wire::byte_at(case, 1),
+        c,
+        fields::bytes(case, data),
+        &mut lent[0..room],
+        answer,
+    )
+}
+
+// A word behind 0 words is not used.
+fn status(general: u8, words: u8, word: u16) -> Status {
+    if words == 0 {
+        return Status {
+            general,
+            extended: ExtendedStatus::Absent,
+        };
+    }
+    Status {
+        general,
+        extended: ExtendedStatus::Word(word),
+    }
+}
+
+// A remaining size behind a flag 0 is not used.
+fn remaining(flag: u8, words: u8) -> RemainingPathSize {
+    if flag == 0 {
+        return RemainingPathSize::Absent;
+    }
+    RemainingPathSize::Words(words)
+}
+
+fn put_failure(
+    service: u8,
+    status: Status,
+    f: ForwardRequestFail,
+    out: &mut [u8],
+    answer: &mut [u8],
+) -> usize {
+    let w = reply::write_forward_failure(service, status, f, out);
+    said::wrote(w, out, answer)
+}
+
+fn write_failure(case: &[u8], lent: &mut [u8], answer: &mut [u8]) -> usize {
+    let room = fields::room(case, 16);
+    let words = wire::byte_at(case, 3);
+    let flag = wire::byte_at(case, 14);
+    if lent.len() < room || !fields::is_flag(words) || !fields::is_flag(flag) {
+        return 0;
+    }
+    said::fill(lent, room);
+    let f = ForwardRequestFail {
+        connection_serial_number: wire::u16_at(case, 6),
+        originator_vendor_id: wire::u16_at(case, 8),
+        originator_serial_number: wire::u32_at(case, 10),
+        remaining_path_size: remaining(flag, wire::byte_at(case, 15)),
+    };
+    let s = status(wire::byte_at(case, 2), words, wire::u16_at(case, 4));
+    put_failure(wire::byte_at(case, 1), s, f, &mut lent[0..room], answer)
+}
+
+fn is_routing_error(case: &[u8], answer: &mut [u8]) -> usize {
+    let words = wire::byte_at(case, 2);
+    if case.len() != 5 || !fields::is_flag(words) {
+        return 0;
+    }
+    let s = status(wire::byte_at(case, 1), words, wire::u16_at(case, 3));
+    wire::put_byte(answer, 0, 0);
+    wire::put_byte(answer, 1, 0);
+    if reply::is_routing_error(s) {
+        wire::put_byte(answer, 1, 1);
+    }
+    2
+}
+
+// Puts the answer of a case at the front of answer, and answers how many bytes it has; 0 for what is no case.
+pub(crate) fn ask(op: u8, case: &[u8], lent: &mut [u8], answer: &mut [u8]) -> usize {
+    if op == 0x23 {
+        return write_open(case, lent, answer);
+    }
+    if op == 0x24 {
+        return write_close(case, lent, answer);
+    }
+    if op == 0x25 {
+        return write_failure(case, lent, answer);
+    }
+    is_routing_error(case, answer)
+}
