@@ -63,6 +63,19 @@ use Rattle.request.proofs.read_forward_open
 use Rattle.request.proofs.read_forward_close
 use Rattle.request.proofs.read_unconnected_send
 use Rattle.request.proofs.Exact as Request
+use Rattle.reply_header.proofs.is_ok
+use Rattle.reply_header.proofs.is_routing_error
+use Rattle.reply_header.proofs.read_reply_header
+use Rattle.reply_header.proofs.Exact as ReplyHeader
+use Rattle.reply_encode.proofs.write_forward_open_success
+use Rattle.reply_encode.proofs.write_forward_close_success
+use Rattle.reply_encode.proofs.write_forward_failure
+use Rattle.reply_encode.proofs.Exact as ReplyEncode
+use Rattle.reply.proofs.read_forward_open_reply
+use Rattle.reply.proofs.read_forward_close_reply
+use Rattle.reply.proofs.Exact as Reply
+use Rattle.envelope.proofs.read_envelope
+use Rattle.envelope.proofs.Exact as Envelope
 
 pub record Claims : Type 2 where
   -- wire
@@ -125,6 +138,19 @@ pub record Claims : Type 2 where
   pub read-forward-open : Exact read_forward_open.ended (λ _. read_forward_open.clauses)
   pub read-forward-close : Exact read_forward_close.ended (λ _. read_forward_close.clauses)
   pub read-unconnected-send : Exact read_unconnected_send.ended (λ _. read_unconnected_send.clauses)
+  -- reply_header
+  pub is-ok : Exact is_ok.ended (λ _. is_ok.clauses)
+  pub is-routing-error : Exact is_routing_error.ended (λ _. is_routing_error.clauses)
+  pub read-reply-header : Exact read_reply_header.ended (λ _. read_reply_header.clauses)
+  -- reply_encode
+  pub write-forward-open-success : Exact write_forward_open_success.ended (λ _. write_forward_open_success.clauses)
+  pub write-forward-close-success : Exact write_forward_close_success.ended (λ _. write_forward_close_success.clauses)
+  pub write-forward-failure : Exact write_forward_failure.ended (λ _. write_forward_failure.clauses)
+  -- reply
+  pub read-forward-open-reply : Exact read_forward_open_reply.ended (λ _. read_forward_open_reply.clauses)
+  pub read-forward-close-reply : Exact read_forward_close_reply.ended (λ _. read_forward_close_reply.clauses)
+  -- envelope
+  pub read-envelope : Exact read_envelope.ended (λ _. read_envelope.clauses)
 
 pub claims : Claims
 claims =
@@ -173,4 +199,13 @@ claims =
       read-forward-open = Request.read-forward-open-exact;
       read-forward-close = Request.read-forward-close-exact;
       read-unconnected-send = Request.read-unconnected-send-exact;
+      is-ok = ReplyHeader.is-ok-exact;
+      is-routing-error = ReplyHeader.is-routing-error-exact;
+      read-reply-header = ReplyHeader.read-reply-header-exact;
+      write-forward-open-success = ReplyEncode.write-forward-open-success-exact;
+      write-forward-close-success = ReplyEncode.write-forward-close-success-exact;
+      write-forward-failure = ReplyEncode.write-forward-failure-exact;
+      read-forward-open-reply = Reply.read-forward-open-reply-exact;
+      read-forward-close-reply = Reply.read-forward-close-reply-exact;
+      read-envelope = Envelope.read-envelope-exact;
     }
