@@ -125,11 +125,11 @@ module _ {A : Type 0} (fields : List ℕ → ℕ → A) (size : ℕ) (routing : 
       unfolding readReply
       header-goes z e = then-goes (readHeader s) (replyData fields size routing s) m z (sym is ∙ ap paperReply h) e
 
--- the data starts within the limit
-pub header-near : (s : List ℕ) (r : ReplyRead) (m : MessageReply) → paperReply r ≡ readHeader s → r ≡ FoundReply m → m .«data_start» ≤ 65535
+-- the data starts near: sums of its place don't wrap
+pub header-near : (s : List ℕ) (r : ReplyRead) (m : MessageReply) → paperReply r ≡ readHeader s → r ≡ FoundReply m → m .«data_start» ≤ 1000
 header-near s r m is h =
     let w : Header s m = header-was s m (sym is ∙ ap paperReply h) in
     let e : dataStart s ≡ m .«data_start» = ap (λ (x : MessageReply). x .«data_start») (w .is) in
-    omega (arith, w .small, w .inside)
+    omega (arith, w .few)
 
 pub ruleset reply-laws = (success-stops, success-found, failure-stops, failure-found, header-stops, header-goes, header-near)

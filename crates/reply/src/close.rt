@@ -28,7 +28,7 @@ fn close_at(s: &[u8], at: usize) -> ForwardCloseSuccess
 
 // What follows the header.
 fn close_data(routing: bool, s: &[u8], m: MessageReply) -> CloseReplyRead
-    requires { ⌜ m .«data_start» ≤ 65535 ⌝ }
+    requires { ⌜ m .«data_start» ≤ 1000 ⌝ }
     ensures { λ r. ⌜ paperCloseReply r ≡ replyData closeAt 8 routing (now (s .entry)) m ⌝ }
 {
     let at = m.data_start;

@@ -32,7 +32,7 @@ fn open_at(s: &[u8], at: usize) -> ForwardOpenSuccess
 
 // What follows the header.
 fn open_data(routing: bool, s: &[u8], m: MessageReply) -> OpenReplyRead
-    requires { ⌜ m .«data_start» ≤ 65535 ⌝ }
+    requires { ⌜ m .«data_start» ≤ 1000 ⌝ }
     ensures { λ r. ⌜ paperOpenReply r ≡ replyData openAt 24 routing (now (s .entry)) m ⌝ }
 {
     let at = m.data_start;
