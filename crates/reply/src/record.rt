@@ -16,11 +16,11 @@ pub(crate) fn app_data(s: &[u8], at: usize) -> Counted
     if s.len() < at + 2 {
         return Counted::Refused(Refusal::Short);
     }
-    // room for the data is judged behind the reserved byte
+    // the data stands behind the reserved byte, and so does the room it needs
     let words = byte_at(s, at);
     let len = 2 * (words as usize);
-    if s.len() < at + 2 + len {
-        return Counted::Refused(Refusal::Short);
+    if at + 2 + len <= s.len() {
+        return Counted::Count(len);
     }
-    Counted::Count(len)
+    Counted::Refused(Refusal::Short)
 }

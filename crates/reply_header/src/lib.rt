@@ -119,19 +119,19 @@ pub fn read_reply_header(s: &[u8]) -> ReplyRead
     // in a usize: 128 words are 256 bytes
     let words = byte_at(s, 3);
     let data_start = 4 + 2 * (words as usize);
-    if s.len() < data_start {
-        return ReplyRead::Refused(Refusal::Short);
+    if data_start <= s.len() {
+        if MOST_WORDS < words {
+            return ReplyRead::Refused(Refusal::Words);
+        }
+        let data_len = s.len() - data_start;
+        let reply_service = byte_at(s, 0);
+        let status = status_at(s);
+        return ReplyRead::Found(MessageReply {
+            reply_service,
+            status,
+            data_start,
+            data_len,
+        });
     }
-    if MOST_WORDS < words {
-        return ReplyRead::Refused(Refusal::Words);
-    }
-    let data_len = s.len() - data_start;
-    let reply_service = byte_at(s, 0);
-    let status = status_at(s);
-    ReplyRead::Found(MessageReply {
-        reply_service,
-        status,
-        data_start,
-        data_len,
-    })
+    ReplyRead::Refused(Refusal::Short)
 }

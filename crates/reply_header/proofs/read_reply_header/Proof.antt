@@ -27,9 +27,6 @@ add-data-start c = search needs
 returns-3 : tie.Need-returns-3
 returns-3 c = search (header-laws, needs) fits 5000
 
-returns-4 : tie.Need-returns-4
-returns-4 c = search (header-laws, needs) fits 5000
-
 sub-data-len : tie.Need-sub-data-len
 sub-data-len c = search needs
 
@@ -38,6 +35,9 @@ byte-at-requires-2 c κs = search needs
 
 status-at-requires : tie.Need-status-at-requires
 status-at-requires c κs = search needs
+
+returns-4 : tie.Need-returns-4
+returns-4 c = search (header-laws, needs) fits 5000
 
 returns-5 : tie.Need-returns-5
 returns-5 c = search (header-laws, needs) fits 5000
@@ -53,8 +53,8 @@ read-reply-header-spec =
     mul-data-start
     add-data-start
     returns-3
-    returns-4
     sub-data-len
     byte-at-requires-2
     status-at-requires
+    returns-4
     returns-5)
