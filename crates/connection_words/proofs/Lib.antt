@@ -1,4 +1,5 @@
 pub mod FieldLaws
 pub mod Words
 pub mod Lengths
+pub mod Triads
 pub mod Exact

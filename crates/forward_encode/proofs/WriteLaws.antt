@@ -32,15 +32,6 @@ use Rattle.route.specs.Routes.{Ready, Routed}
 use Rattle.forward_sizes.specs.Sizes.{openBase}
 use Rattle.forward_sizes.proofs.SizeLaws.{word-small-size, open-front}
 
--- ---- what names a connection
-module _ (old : List ℕ) (at : ℕ) where
-  pub triad-put : (serial vendor originator : ℕ) (a b c : List ℕ) → a ≡ sets old at (lowFirst 2 serial) → b ≡ sets a (at + 2) (lowFirst 2 vendor)
-      → c ≡ sets b (at + 4) (lowFirst 4 originator) → c ≡ sets old at (laid (triad serial vendor originator))
-  triad-put serial vendor originator a b c e f g =
-      let x : a ≡ sets old at (laid (field 2 serial ∷ [])) = laid-more [] (field 2 serial) old old a at at refl (omega arith) e in
-      let y : b ≡ sets old at (laid (field 2 serial ∷ field 2 vendor ∷ [])) = laid-more (field 2 serial ∷ []) (field 2 vendor) old a b at (at + 2) x (omega arith) f in
-      laid-more (field 2 serial ∷ field 2 vendor ∷ []) (field 4 originator) old b c at (at + 4) y (omega arith) g
-
 -- ---- Forward Close
 pub close-fields : (c : ForwardCloseRequest) (w : ℕ) (old a0 a1 a2 : List ℕ) → a0 ≡ sets old 0 (c .«priority_time_ticks» ∷ c .«timeout_ticks» ∷ [])
     → a1 ≡ sets a0 2 (laid (triad (c .«connection_serial_number») (c .«originator_vendor_id») (c .«originator_serial_number»))) → a2 ≡ sets a1 10 (w ∷ 0 ∷ [])

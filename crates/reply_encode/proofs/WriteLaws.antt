@@ -18,6 +18,7 @@ use Rattle.connection.specs.declared.ForwardCloseSuccess.{ForwardCloseSuccess}
 use Rattle.connection.specs.declared.ForwardRequestFail.{ForwardRequestFail}
 use Rattle.connection.specs.declared.RemainingPathSize.the-variants.{Absent as NoSize, Words}
 use Rattle.connection_words.specs.Requests.{triad}
+use Rattle.connection_words.proofs.Triads.{triad-put}
 use Rattle.reply_header.specs.Headers.{extendedFields, headerFields}
 use Rattle.reply_header.specs.declared.ExtendedStatus.{ExtendedStatus}
 use Rattle.reply_header.specs.declared.ExtendedStatus.the-variants.{Absent as NoWord, Word}
@@ -33,13 +34,10 @@ module _ (old : List ℕ) (at : ℕ) where
       let g : a ≡ sets old at (laid (number 4 x ∷ [])) = laid-more [] (number 4 x) old old a at at refl (omega arith) e in
       laid-more (number 4 x ∷ []) (number 4 y) old a b at (at + 4) g (omega arith) f
 
-  pub triad-put : (serial vendor originator : ℕ) (a b c : List ℕ) → a ≡ sets old at (lowFirst 2 serial) → b ≡ sets a (at + 2) (lowFirst 2 vendor)
+  pub triad-stored : (serial vendor originator : ℕ) (a b c : List ℕ) → a ≡ sets old at (lowFirst 2 serial) → b ≡ sets a (at + 2) (lowFirst 2 vendor)
       → c ≡ sets b (at + 4) (lowFirst 4 originator) → c ≡ withFields old at (triad serial vendor originator)
   unfolding withFields
-  triad-put serial vendor originator a b c e f g =
-      let x : a ≡ sets old at (laid (number 2 serial ∷ [])) = laid-more [] (number 2 serial) old old a at at refl (omega arith) e in
-      let y : b ≡ sets old at (laid (number 2 serial ∷ number 2 vendor ∷ [])) = laid-more (number 2 serial ∷ []) (number 2 vendor) old a b at (at + 2) x (omega arith) f in
-      laid-more (number 2 serial ∷ number 2 vendor ∷ []) (number 4 originator) old b c at (at + 4) y (omega arith) g
+  triad-stored serial vendor originator a b c e f g = triad-put old at serial vendor originator a b c e f g
 
   pub app-put : (app a b : List ℕ) → a ≡ sets old at ((length app / 2) ∷ 0 ∷ []) → b ≡ sets a (at + 2) app → b ≡ sets (withFields old at (appFields app)) (at + 2) app
   unfolding withFields

@@ -57,8 +57,8 @@ worth (number k v) = v
 nth : ℕ → List Field → ℕ
 nth i fs = getD (map worth fs) i 0
 
--- ---- a success, either one: written fields fs, of size bytes, that are read as x, the application data, and whatever follows
-module _ {A : Type 0} (fields : List ℕ → ℕ → A) (size service : ℕ) (fs : List Field) (x : A) (app rest : List ℕ) where
+-- ---- a success, either one: written fields fs, the application data, and whatever follows
+module _ (service : ℕ) (fs : List Field) (app rest : List ℕ) where
   abbrev record-of : List Field
   record-of = headerFields service success ++ (fs ++ appFields app)
 
@@ -73,15 +73,16 @@ module _ {A : Type 0} (fields : List ℕ → ℕ → A) (size service : ℕ) (fs
   here : drop 0 reply-of ≡ laid record-of ++ (app ++ rest)
   here = append-assoc (laid record-of) app rest
 
-  reply-length : widths record-of ≡ 4 + size + 2 → length reply-of ≡ 4 + size + 2 + length app + length rest
-  reply-length e = omega (arith, ap length here, laid-size record-of (app ++ rest), length-append app rest)
+  reply-length : length reply-of ≡ widths record-of + length app + length rest
+  reply-length = omega (arith, ap length here, laid-size record-of (app ++ rest), length-append app rest)
 
-  success-back : (routing : Bool) → AppFits app → widths record-of ≡ 4 + size + 2 → length reply-of ≤ maxRecord
+  -- fields of size bytes that are read as x
+  success-back : {A : Type 0} (fields : List ℕ → ℕ → A) (size : ℕ) (x : A) (routing : Bool) → AppFits app → widths record-of ≡ 4 + size + 2 → length reply-of ≤ maxRecord
       → getD reply-of (4 + size) 0 ≡ length app / 2 → fields reply-of 4 ≡ x
       → readReply fields size routing reply-of ≡ done (succeeded (headed service success (size + 2 + length app + length rest)) x (4 + size + 2) (length app))
   unfolding readReply replyData
-  success-back routing f wide small w is =
-      let l : length reply-of ≡ 4 + size + 2 + length app + length rest = reply-length wide in
+  success-back fields size x routing f wide small w is =
+      let l : length reply-of ≡ 4 + size + 2 + length app + length rest = omega (arith, reply-length) in
       let d : List ℕ = (laid (fs ++ appFields app) ++ app) ++ rest in
       let n : length d ≡ size + 2 + length app + length rest = omega arith in
       then-done (readHeader reply-of) (replyData fields size routing reply-of) (headed service success (length d))
@@ -101,10 +102,11 @@ pub open-reply-read-of-written : (routing : Bool) (service : ℕ) (o : ForwardOp
     → 30 + length app + length rest ≤ maxRecord → OpenBack routing service o app rest
 unfolding openReplyBytes nth worth
 open-reply-read-of-written routing service o app rest b h f small =
-    let F : List Field = record-of openAt 24 service (openFields o) o app rest in
-    let s : List ℕ = reply-of openAt 24 service (openFields o) o app rest in
-    let p : drop 0 s ≡ laid F ++ (app ++ rest) = here openAt 24 service (openFields o) o app rest in
-    let e : fieldsAt F s 0 ≡ F = fields-back F s (app ++ rest) 0 (record-holds openAt 24 service (openFields o) o app rest b h f) p in
+    let fs : List Field = openFields o in
+    let F : List Field = record-of service fs app rest in
+    let s : List ℕ = reply-of service fs app rest in
+    let p : drop 0 s ≡ laid F ++ (app ++ rest) = here service fs app rest in
+    let e : fieldsAt F s 0 ≡ F = fields-back F s (app ++ rest) 0 (record-holds service fs app rest b h f) p in
     let k : valueOf 4 (drop 4 s) ≡ o .«o_t_connection_id» = ap (nth 4) e in
     let l : valueOf 4 (drop 8 s) ≡ o .«t_o_connection_id» = ap (nth 5) e in
     let m : valueOf 2 (drop 12 s) ≡ o .«connection_serial_number» = ap (nth 6) e in
@@ -114,9 +116,7 @@ open-reply-read-of-written routing service o app rest b h f small =
     let t : valueOf 4 (drop 24 s) ≡ o .«t_o_api» = ap (nth 10) e in
     let w : getD s 28 0 ≡ length app / 2 = ap (nth 11) e in
     record {
-      read =
-          success-back openAt 24 service (openFields o) o app rest routing f refl (omega (arith, reply-length openAt 24 service (openFields o) o app rest refl)) w
-          (rw (k, l, m, n, q, r, t));
+      read = success-back service fs app rest openAt 24 o routing f refl (omega (arith, reply-length service fs app rest)) w (rw (k, l, m, n, q, r, t));
       app-is = part-front s app rest 30 (past-laid s F (app ++ rest) 0 p);
     }
 
@@ -131,18 +131,17 @@ pub close-reply-read-of-written : (routing : Bool) (service : ℕ) (c : ForwardC
     → 14 + length app + length rest ≤ maxRecord → CloseBack routing service c app rest
 unfolding closeReplyBytes nth worth
 close-reply-read-of-written routing service c app rest b h f small =
-    let F : List Field = record-of closeAt 8 service (closeFields c) c app rest in
-    let s : List ℕ = reply-of closeAt 8 service (closeFields c) c app rest in
-    let p : drop 0 s ≡ laid F ++ (app ++ rest) = here closeAt 8 service (closeFields c) c app rest in
-    let e : fieldsAt F s 0 ≡ F = fields-back F s (app ++ rest) 0 (record-holds closeAt 8 service (closeFields c) c app rest b h f) p in
+    let fs : List Field = closeFields c in
+    let F : List Field = record-of service fs app rest in
+    let s : List ℕ = reply-of service fs app rest in
+    let p : drop 0 s ≡ laid F ++ (app ++ rest) = here service fs app rest in
+    let e : fieldsAt F s 0 ≡ F = fields-back F s (app ++ rest) 0 (record-holds service fs app rest b h f) p in
     let k : valueOf 2 (drop 4 s) ≡ c .«connection_serial_number» = ap (nth 4) e in
     let l : valueOf 2 (drop 6 s) ≡ c .«originator_vendor_id» = ap (nth 5) e in
     let m : valueOf 4 (drop 8 s) ≡ c .«originator_serial_number» = ap (nth 6) e in
     let w : getD s 12 0 ≡ length app / 2 = ap (nth 7) e in
     record {
-      read =
-          success-back closeAt 8 service (closeFields c) c app rest routing f refl (omega (arith, reply-length closeAt 8 service (closeFields c) c app rest refl)) w
-          (rw (k, l, m));
+      read = success-back service fs app rest closeAt 8 c routing f refl (omega (arith, reply-length service fs app rest)) w (rw (k, l, m));
       app-is = part-front s app rest 14 (past-laid s F (app ++ rest) 0 p);
     }
 

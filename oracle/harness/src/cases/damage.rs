@@ -22,9 +22,15 @@ impl Fault {
 }
 
 /// Every byte as every other, taken out and doubled; every front.
-pub fn every_change(good: &[u8], mut to: impl FnMut(&[u8])) {
+pub fn every_change(good: &[u8], to: impl FnMut(&[u8])) {
+    let all: Vec<u8> = (1..=255).collect();
+    every_change_by(&all, good, to);
+}
+
+/// The same, with the bits of a byte turned in these ways alone.
+pub fn every_change_by(ways: &[u8], good: &[u8], mut to: impl FnMut(&[u8])) {
     for i in 0..good.len() {
-        for x in 1..=255 {
+        for x in ways {
             let mut d = good.to_vec();
             d[i] ^= x;
             to(&d);

@@ -1,7 +1,7 @@
 //! Operations 05 to 07 on inputs that no writer made: all short ones, near misses of every form, damaged copies.
 
 use super::path_lists::{any_list, edges, link, small, text};
-use super::{ask_reader, Sink};
+use super::{ask_reader, damage, Sink};
 use crate::ask_crate;
 use crate::case::*;
 use crate::rng::Rng;
@@ -61,17 +61,8 @@ pub fn written(p: &Plain) -> Vec<u8> {
 }
 
 /// Every byte changed in four ways, taken out, or doubled; every front of it.
-pub fn every_small_damage(good: &[u8], mut to: impl FnMut(&[u8])) {
-    for i in 0..good.len() {
-        for x in [1, 0x10, 0x80, 0xFF] {
-            let mut d = good.to_vec();
-            d[i] ^= x;
-            to(&d);
-        }
-        to(&[&good[..i], &good[i + 1..]].concat());
-        to(&[&good[..=i], &good[i..]].concat());
-        to(&good[..i]);
-    }
+pub fn every_small_damage(good: &[u8], to: impl FnMut(&[u8])) {
+    damage::every_change_by(&[1, 0x10, 0x80, 0xFF], good, to);
 }
 
 /// Whole segments that are not the one form, and their good neighbours.

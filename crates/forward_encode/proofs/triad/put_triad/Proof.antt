@@ -1,7 +1,7 @@
 -- `forward_encode::triad::put_triad` meets its contract. Assumes nothing.
---: use Rattle.forward_encode.proofs.WriteLaws.{triad-put}
+--: use Rattle.connection_words.proofs.Triads.{triad-put}
 --: * = search (triad-put, needs) fits 5000
-use Rattle.forward_encode.proofs.WriteLaws.{triad-put}
+use Rattle.connection_words.proofs.Triads.{triad-put}
 use borrow.Author.Needs.{needs}
 use Rattle.forward_encode.proofs.triad.put_triad.Statement.{statement}
 use Rattle.forward_encode.proofs.triad.put_triad.Tie as tie

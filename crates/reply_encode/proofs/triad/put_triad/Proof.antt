@@ -1,7 +1,7 @@
 -- `reply_encode::triad::put_triad` meets its contract. Assumes nothing.
---: use Rattle.reply_encode.proofs.WriteLaws.{triad-put}
---: * = search (triad-put, needs) fits 5000
-use Rattle.reply_encode.proofs.WriteLaws.{triad-put}
+--: use Rattle.reply_encode.proofs.WriteLaws.{triad-stored}
+--: * = search (triad-stored, needs) fits 5000
+use Rattle.reply_encode.proofs.WriteLaws.{triad-stored}
 use borrow.Author.Needs.{needs}
 use Rattle.reply_encode.proofs.triad.put_triad.Statement.{statement}
 use Rattle.reply_encode.proofs.triad.put_triad.Tie as tie
@@ -25,7 +25,7 @@ same-length : tie.Need-same-length
 same-length c = search needs
 
 returns : tie.Need-returns
-returns c = search (triad-put, needs) fits 5000
+returns c = search (triad-stored, needs) fits 5000
 
 pub put-triad-spec : {M : Type 1} → statement M
 put-triad-spec =
