@@ -23,18 +23,18 @@ const NEWLINE: u8 = 10;
 // Writes an answer as one line, by way of text.
 fn print(answer: &[u8], text: &mut [u8]) {
     for i in 0..answer.len() {
-        let b = wire::byte_at(answer, i);
-        wire::put_byte(text, 2 * i, lines::hex_digit(b / 16));
-        wire::put_byte(text, 2 * i + 1, lines::hex_digit(b));
+        let b = wire_read::byte_at(answer, i);
+        wire_write::put_byte(text, 2 * i, lines::hex_digit(b / 16));
+        wire_write::put_byte(text, 2 * i + 1, lines::hex_digit(b));
     }
     let n = 2 * answer.len();
-    wire::put_byte(text, n, NEWLINE);
-    io::write_all(1, wire::part_of(text, 0, n + 1));
+    wire_write::put_byte(text, n, NEWLINE);
+    io::write_all(1, wire_read::part_of(text, 0, n + 1));
 }
 
 // Puts the answer of a case at the front of reply, and answers how many bytes it has; 0 for what is no case.
 fn ask(case: &[u8], lent: &mut [u8], reply: &mut [u8]) -> usize {
-    let op = wire::byte_at(case, 0);
+    let op = wire_read::byte_at(case, 0);
     if op < 0x10 {
         return paths::ask(op, case, lent, reply);
     }
@@ -59,14 +59,14 @@ fn answer(case: &[u8], lent: &mut [u8], reply: &mut [u8], text: &mut [u8]) {
         io::write_all(1, b"bad\n");
         return;
     }
-    print(wire::part_of(reply, 0, n), text);
+    print(wire_read::part_of(reply, 0, n), text);
 }
 
 // A line that has ended.
 fn finish(line: Line, case: &[u8], lent: &mut [u8], reply: &mut [u8], text: &mut [u8]) {
     match lines::line_case(line) {
         Case::Nothing => {}
-        Case::Bytes(n) => answer(wire::part_of(case, 0, n), lent, reply, text),
+        Case::Bytes(n) => answer(wire_read::part_of(case, 0, n), lent, reply, text),
         Case::Bad => {
             io::write_all(1, b"bad\n");
         }
@@ -100,7 +100,7 @@ fn feed(
 ) -> Line {
     let mut l = line;
     for i in 0..chunk.len() {
-        l = step(wire::byte_at(chunk, i), l, case, lent, reply, text);
+        l = step(wire_read::byte_at(chunk, i), l, case, lent, reply, text);
     }
     l
 }

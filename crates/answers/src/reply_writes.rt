@@ -27,16 +27,16 @@ fn write_open(case: &[u8], lent: &mut [u8], answer: &mut [u8]) -> usize {
     }
     said::fill(lent, room);
     let o = ForwardOpenSuccess {
-        o_t_connection_id: wire::u32_at(case, 2),
-        t_o_connection_id: wire::u32_at(case, 6),
-        connection_serial_number: wire::u16_at(case, 10),
-        originator_vendor_id: wire::u16_at(case, 12),
-        originator_serial_number: wire::u32_at(case, 14),
-        o_t_api: wire::u32_at(case, 18),
-        t_o_api: wire::u32_at(case, 22),
+        o_t_connection_id: wire_read::u32_at(case, 2),
+        t_o_connection_id: wire_read::u32_at(case, 6),
+        connection_serial_number: wire_read::u16_at(case, 10),
+        originator_vendor_id: wire_read::u16_at(case, 12),
+        originator_serial_number: wire_read::u32_at(case, 14),
+        o_t_api: wire_read::u32_at(case, 18),
+        t_o_api: wire_read::u32_at(case, 22),
     };
     put_open(
-        wire::byte_at(case, 1),
+        wire_read::byte_at(case, 1),
         o,
         fields::bytes(case, data),
         &mut lent[0..room],
@@ -63,12 +63,12 @@ fn write_close(case: &[u8], lent: &mut [u8], answer: &mut [u8]) -> usize {
     }
     said::fill(lent, room);
     let c = ForwardCloseSuccess {
-        connection_serial_number: wire::u16_at(case, 2),
-        originator_vendor_id: wire::u16_at(case, 4),
-        originator_serial_number: wire::u32_at(case, 6),
+        connection_serial_number: wire_read::u16_at(case, 2),
+        originator_vendor_id: wire_read::u16_at(case, 4),
+        originator_serial_number: wire_read::u32_at(case, 6),
     };
     put_close(
-        wire::byte_at(case, 1),
+        wire_read::byte_at(case, 1),
         c,
         fields::bytes(case, data),
         &mut lent[0..room],
@@ -111,32 +111,46 @@ fn put_failure(
 
 fn write_failure(case: &[u8], lent: &mut [u8], answer: &mut [u8]) -> usize {
     let room = fields::room(case, 16);
-    let words = wire::byte_at(case, 3);
-    let flag = wire::byte_at(case, 14);
+    let words = wire_read::byte_at(case, 3);
+    let flag = wire_read::byte_at(case, 14);
     if lent.len() < room || !fields::is_flag(words) || !fields::is_flag(flag) {
         return 0;
     }
     said::fill(lent, room);
     let f = ForwardRequestFail {
-        connection_serial_number: wire::u16_at(case, 6),
-        originator_vendor_id: wire::u16_at(case, 8),
-        originator_serial_number: wire::u32_at(case, 10),
-        remaining_path_size: remaining(flag, wire::byte_at(case, 15)),
+        connection_serial_number: wire_read::u16_at(case, 6),
+        originator_vendor_id: wire_read::u16_at(case, 8),
+        originator_serial_number: wire_read::u32_at(case, 10),
+        remaining_path_size: remaining(flag, wire_read::byte_at(case, 15)),
     };
-    let s = status(wire::byte_at(case, 2), words, wire::u16_at(case, 4));
-    put_failure(wire::byte_at(case, 1), s, f, &mut lent[0..room], answer)
+    let s = status(
+        wire_read::byte_at(case, 2),
+        words,
+        wire_read::u16_at(case, 4),
+    );
+    put_failure(
+        wire_read::byte_at(case, 1),
+        s,
+        f,
+        &mut lent[0..room],
+        answer,
+    )
 }
 
 fn is_routing_error(case: &[u8], answer: &mut [u8]) -> usize {
-    let words = wire::byte_at(case, 2);
+    let words = wire_read::byte_at(case, 2);
     if case.len() != 5 || !fields::is_flag(words) {
         return 0;
     }
-    let s = status(wire::byte_at(case, 1), words, wire::u16_at(case, 3));
-    wire::put_byte(answer, 0, 0);
-    wire::put_byte(answer, 1, 0);
+    let s = status(
+        wire_read::byte_at(case, 1),
+        words,
+        wire_read::u16_at(case, 3),
+    );
+    wire_write::put_byte(answer, 0, 0);
+    wire_write::put_byte(answer, 1, 0);
     if reply::is_routing_error(s) {
-        wire::put_byte(answer, 1, 1);
+        wire_write::put_byte(answer, 1, 1);
     }
     2
 }

@@ -45,7 +45,7 @@ fn write_message(case: &[u8], lent: &mut [u8], answer: &mut [u8]) -> usize {
     }
     said::fill(lent, room);
     put_message(
-        wire::byte_at(case, 1),
+        wire_read::byte_at(case, 1),
         fields::path(case, list),
         fields::bytes(case, pool),
         fields::bytes(case, data),
@@ -65,13 +65,13 @@ fn write_open(case: &[u8], lent: &mut [u8], answer: &mut [u8]) -> usize {
     if lent.len() < room {
         return 0;
     }
-    let fixed = wire::part_of(case, 2, connections::OPEN);
-    if !fields::is_flag(wire::byte_at(case, 1)) || !connections::good_open(fixed) {
+    let fixed = wire_read::part_of(case, 2, connections::OPEN);
+    if !fields::is_flag(wire_read::byte_at(case, 1)) || !connections::good_open(fixed) {
         return 0;
     }
     said::fill(lent, room);
     put_open(
-        connections::open(wire::byte_at(case, 1) == 1, fixed),
+        connections::open(wire_read::byte_at(case, 1) == 1, fixed),
         fields::path(case, f.list),
         fields::bytes(case, f.pool),
         &mut lent[0..room],
@@ -98,11 +98,11 @@ fn write_close(case: &[u8], lent: &mut [u8], answer: &mut [u8]) -> usize {
     }
     said::fill(lent, room);
     let c = ForwardCloseRequest {
-        priority_time_ticks: wire::byte_at(case, 1),
-        timeout_ticks: wire::byte_at(case, 2),
-        connection_serial_number: wire::u16_at(case, 3),
-        originator_vendor_id: wire::u16_at(case, 5),
-        originator_serial_number: wire::u32_at(case, 7),
+        priority_time_ticks: wire_read::byte_at(case, 1),
+        timeout_ticks: wire_read::byte_at(case, 2),
+        connection_serial_number: wire_read::u16_at(case, 3),
+        originator_vendor_id: wire_read::u16_at(case, 5),
+        originator_serial_number: wire_read::u32_at(case, 7),
     };
     put_close(
         c,
@@ -134,8 +134,8 @@ fn write_send(case: &[u8], lent: &mut [u8], answer: &mut [u8]) -> usize {
     }
     said::fill(lent, room);
     let u = UnconnectedSend {
-        priority_ticks: wire::byte_at(case, 1),
-        timeout_ticks: wire::byte_at(case, 2),
+        priority_ticks: wire_read::byte_at(case, 1),
+        timeout_ticks: wire_read::byte_at(case, 2),
     };
     put_send(
         u,
@@ -155,12 +155,12 @@ fn default_open(large: bool, serial: u16) -> OpenOptions {
 
 fn write_default(case: &[u8], lent: &mut [u8], answer: &mut [u8]) -> usize {
     let room = fields::room(case, 4);
-    let large = wire::byte_at(case, 1);
+    let large = wire_read::byte_at(case, 1);
     if lent.len() < room || !fields::is_flag(large) {
         return 0;
     }
     said::fill(lent, room);
-    let o = default_open(large == 1, wire::u16_at(case, 2));
+    let o = default_open(large == 1, wire_read::u16_at(case, 2));
     let p = request::default_connection_path();
     put_open(o, p, &[], &mut lent[0..room], answer)
 }
@@ -169,9 +169,12 @@ fn mask(case: &[u8], answer: &mut [u8]) -> usize {
     if case.len() != 2 {
         return 0;
     }
-    let o = connection::priority_tick_time(connection::default_options(0), wire::byte_at(case, 1));
-    wire::put_byte(answer, 0, 0);
-    wire::put_byte(answer, 1, o.priority_tick_time);
+    let o = connection::priority_tick_time(
+        connection::default_options(0),
+        wire_read::byte_at(case, 1),
+    );
+    wire_write::put_byte(answer, 0, 0);
+    wire_write::put_byte(answer, 1, o.priority_tick_time);
     2
 }
 

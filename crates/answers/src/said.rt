@@ -12,13 +12,13 @@ const BLANK: u8 = 0xA5;
 // Makes the first room bytes of lent ready.
 pub(crate) fn fill(lent: &mut [u8], room: usize) {
     for i in 0..room {
-        wire::put_byte(lent, i, BLANK);
+        wire_write::put_byte(lent, i, BLANK);
     }
 }
 
 // No number of an answer is larger.
 pub(crate) fn put_number(reply: &mut [u8], at: usize, n: usize) {
-    wire::put_u32(reply, at, (n % 4294967296) as u32);
+    wire_write::put_u32(reply, at, (n % 4294967296) as u32);
 }
 
 // A part of the input: start and length.
@@ -31,13 +31,13 @@ pub(crate) fn put_part(reply: &mut [u8], at: usize, start: usize, len: usize) {
 }
 
 pub(crate) fn refused(e: Refusal, reply: &mut [u8]) -> usize {
-    wire::put_byte(reply, 0, wire::refusal_number(e));
+    wire_write::put_byte(reply, 0, wire::refusal_number(e));
     1
 }
 
 // A number.
 fn number(n: usize, reply: &mut [u8]) -> usize {
-    wire::put_byte(reply, 0, 0);
+    wire_write::put_byte(reply, 0, 0);
     put_number(reply, 1, n);
     5
 }
@@ -61,12 +61,12 @@ pub(crate) fn wrote(w: Wrote, out: &[u8], reply: &mut [u8]) -> usize {
     match w {
         Wrote::Size(n) => {
             number(n, reply);
-            wire::put_bytes(reply, 5, out);
+            wire_write::put_bytes(reply, 5, out);
             5 + out.len()
         }
         Wrote::Refused(e) => {
             refused(e, reply);
-            wire::put_bytes(reply, 1, out);
+            wire_write::put_bytes(reply, 1, out);
             1 + out.len()
         }
     }
@@ -76,10 +76,10 @@ fn put_segment(kind: u8, number: u32, start: u32, len: u32, reply: &mut [u8], at
     if reply.len() <= at {
         return;
     }
-    wire::put_byte(reply, at, kind);
-    wire::put_u32(reply, at + 1, number);
-    wire::put_u32(reply, at + 5, start);
-    wire::put_u32(reply, at + 9, len);
+    wire_write::put_byte(reply, at, kind);
+    wire_write::put_u32(reply, at + 1, number);
+    wire_write::put_u32(reply, at + 5, start);
+    wire_write::put_u32(reply, at + 9, len);
 }
 
 fn put_symbol(y: SymbolSegment, reply: &mut [u8], at: usize) {

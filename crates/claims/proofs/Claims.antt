@@ -4,15 +4,17 @@
 use denote.Ref.{now}
 use Rattle.exact.specs.Exact.{Exact, ExactBy}
 use Rattle.wire.proofs.refusal_number
-use Rattle.wire.proofs.byte_at
-use Rattle.wire.proofs.u16_at
-use Rattle.wire.proofs.u32_at
-use Rattle.wire.proofs.part_of
-use Rattle.wire.proofs.put_byte
-use Rattle.wire.proofs.put_u16
-use Rattle.wire.proofs.put_u32
-use Rattle.wire.proofs.put_bytes
 use Rattle.wire.proofs.Exact as Wire
+use Rattle.wire_read.proofs.byte_at
+use Rattle.wire_read.proofs.u16_at
+use Rattle.wire_read.proofs.u32_at
+use Rattle.wire_read.proofs.part_of
+use Rattle.wire_read.proofs.Exact as WireRead
+use Rattle.wire_write.proofs.put_byte
+use Rattle.wire_write.proofs.put_u16
+use Rattle.wire_write.proofs.put_u32
+use Rattle.wire_write.proofs.put_bytes
+use Rattle.wire_write.proofs.Exact as WireWrite
 use Rattle.lines.proofs.hex_digit
 use Rattle.lines.proofs.blank_line
 use Rattle.lines.proofs.take_char
@@ -80,10 +82,12 @@ use Rattle.envelope.proofs.Exact as Envelope
 pub record Claims : Type 2 where
   -- wire
   pub refusal-number : Exact refusal_number.ended (λ _. refusal_number.clauses)
+  -- wire_read
   pub byte-at : Exact byte_at.ended (λ _. byte_at.clauses)
   pub u16-at : Exact u16_at.ended (λ _. u16_at.clauses)
   pub u32-at : Exact u32_at.ended (λ _. u32_at.clauses)
   pub part-of : ExactBy part_of.ended (λ _. part_of.clauses) (λ κs z. now z)
+  -- wire_write
   pub put-byte : Exact put_byte.ended (λ _. put_byte.clauses)
   pub put-u16 : Exact put_u16.ended (λ _. put_u16.clauses)
   pub put-u32 : Exact put_u32.ended (λ _. put_u32.clauses)
@@ -156,14 +160,14 @@ pub claims : Claims
 claims =
     record {
       refusal-number = Wire.refusal-number-exact;
-      byte-at = Wire.byte-at-exact;
-      u16-at = Wire.u16-at-exact;
-      u32-at = Wire.u32-at-exact;
-      part-of = Wire.part-of-exact;
-      put-byte = Wire.put-byte-exact;
-      put-u16 = Wire.put-u16-exact;
-      put-u32 = Wire.put-u32-exact;
-      put-bytes = Wire.put-bytes-exact;
+      byte-at = WireRead.byte-at-exact;
+      u16-at = WireRead.u16-at-exact;
+      u32-at = WireRead.u32-at-exact;
+      part-of = WireRead.part-of-exact;
+      put-byte = WireWrite.put-byte-exact;
+      put-u16 = WireWrite.put-u16-exact;
+      put-u32 = WireWrite.put-u32-exact;
+      put-bytes = WireWrite.put-bytes-exact;
       hex-digit = Lines.hex-digit-exact;
       blank-line = Lines.blank-line-exact;
       take-char = Lines.take-char-exact;

@@ -11,7 +11,7 @@ use wire::Refusal;
 // Letters, so that the order of what is copied shows.
 fn fill(pool: &mut [u8]) {
     for i in 0..pool.len() {
-        wire::put_byte(pool, i, 65 + (i % 26) as u8);
+        wire_write::put_byte(pool, i, 65 + (i % 26) as u8);
     }
 }
 

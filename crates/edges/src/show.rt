@@ -61,7 +61,7 @@ pub(crate) fn byte(b: u8) {
 
 pub(crate) fn bytes(s: &[u8]) {
     for i in 0..s.len() {
-        byte(wire::byte_at(s, i));
+        byte(wire_read::byte_at(s, i));
     }
 }
 
@@ -72,9 +72,9 @@ pub(crate) fn run(s: &[u8]) {
         bytes(s);
         return;
     }
-    bytes(wire::part_of(s, 0, 4));
+    bytes(wire_read::part_of(s, 0, 4));
     words(b" ..");
-    bytes(wire::part_of(s, n - 2, 2));
+    bytes(wire_read::part_of(s, n - 2, 2));
 }
 
 // An input or an output: it may hold nothing, and of a long one the length is told.
@@ -100,14 +100,14 @@ fn link(s: &[u8]) {
         return;
     }
     words(b"[");
-    hex(wire::byte_at(s, 0));
-    bytes(wire::part_of(s, 1, s.len()));
+    hex(wire_read::byte_at(s, 0));
+    bytes(wire_read::part_of(s, 1, s.len()));
     words(b"]");
 }
 
 fn port(q: PortSegment, pool: &[u8]) {
     named(b"port ", q.port as u64);
-    let part = wire::part_of(pool, q.start as usize, q.len as usize);
+    let part = wire_read::part_of(pool, q.start as usize, q.len as usize);
     if FEW < part.len() {
         named(b" link of ", part.len() as u64);
         return;
@@ -160,7 +160,7 @@ pub(crate) fn placed(x: Segment) {
 // A segment by its bytes in the pool.
 pub(crate) fn segment(x: Segment, pool: &[u8]) {
     match x {
-        Segment::Symbol(y) => symbol(wire::part_of(pool, y.start as usize, y.len as usize)),
+        Segment::Symbol(y) => symbol(wire_read::part_of(pool, y.start as usize, y.len as usize)),
         Segment::Port(q) => port(q, pool),
         _ => placed(x),
     }
@@ -192,7 +192,7 @@ pub(crate) fn wrote(answer: Wrote, out: &[u8]) {
     size(answer);
     match answer {
         Wrote::Refused(_) => {}
-        Wrote::Size(n) => run(wire::part_of(out, 0, n)),
+        Wrote::Size(n) => run(wire_read::part_of(out, 0, n)),
     }
 }
 

@@ -2,7 +2,7 @@
 // `decode_unconnected_send` in src/codec/decode/message_reply.rs; the walk over items that they use is not in the crate's pages.
 use wire::Counted;
 use wire::Refusal;
-use wire::u16_at;
+use wire_read::u16_at;
 ghost use mathlib.Core.Path.{_≡_};
 ghost use Prim.Native.Nat.{_≤_};
 ghost use Rattle.wire.specs.Answers.{paperCount};

@@ -6,7 +6,7 @@ use epath_sizes::Path;
 use forward_sizes::forward_close_size;
 use wire::Refusal;
 use wire::Wrote;
-use wire::put_bytes;
+use wire_write::put_bytes;
 ghost use mathlib.Core.Path.{_≡_};
 ghost use lib.ListN.{length};
 ghost use lib.Seq.{sets};

@@ -1,6 +1,6 @@
 // What names a connection: its serial number, and its originator's vendor and serial number.
-use wire::put_u16;
-use wire::put_u32;
+use wire_write::put_u16;
+use wire_write::put_u32;
 ghost use mathlib.Core.Path.{_≡_};
 ghost use Prim.Native.Nat.{_≤_};
 ghost use lib.Seq.{sets};

@@ -90,7 +90,7 @@ fn take_digit(n: usize, high: u8, v: u8, out: &mut [u8]) -> Line
     if n % 2 == 0 {
         return Line::Digits(n + 1, v);
     }
-    wire::put_byte(out, n / 2, byte_of(high, v));
+    wire_write::put_byte(out, n / 2, byte_of(high, v));
     Line::Digits(n + 1, v)
 }
 

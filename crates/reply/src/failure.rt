@@ -2,9 +2,9 @@
 use connection::ForwardRequestFail;
 use connection::RemainingPathSize;
 use wire::Refusal;
-use wire::byte_at;
-use wire::u16_at;
-use wire::u32_at;
+use wire_read::byte_at;
+use wire_read::u16_at;
+use wire_read::u32_at;
 ghost use mathlib.Core.Path.{_≡_};
 ghost use Prim.Native.Nat.{_≤_};
 ghost use Rattle.reply.specs.Reads.{remainingAt, failAt, failSize, readFail, paperFail};

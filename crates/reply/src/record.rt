@@ -2,7 +2,7 @@
 // their sums from wrapping.
 use wire::Counted;
 use wire::Refusal;
-use wire::byte_at;
+use wire_read::byte_at;
 ghost use mathlib.Core.Path.{_≡_};
 ghost use Prim.Native.Nat.{_≤_};
 ghost use Rattle.wire.specs.Answers.{paperCount};

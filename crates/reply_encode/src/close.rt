@@ -6,7 +6,7 @@ use crate::triad::put_triad;
 use connection::ForwardCloseSuccess;
 use wire::Refusal;
 use wire::Wrote;
-use wire::put_bytes;
+use wire_write::put_bytes;
 ghost use mathlib.Core.Path.{_≡_};
 ghost use lib.ListN.{length};
 ghost use Rattle.wire.specs.Answers.{paperSize, withRoom, written};

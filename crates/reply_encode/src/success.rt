@@ -2,7 +2,7 @@
 // src/codec/decode/message_reply.rs; the crate has no such writer: added.
 use wire::Refusal;
 use wire::Wrote;
-use wire::put_bytes;
+use wire_write::put_bytes;
 ghost use mathlib.Core.Path.{_≡_};
 ghost use Prim.Native.Nat.{_+_, _≤_};
 ghost use lib.ListN.{length};

@@ -1,8 +1,8 @@
 // A reply's status and header. Beside it in rseip-cip: src/status.rs, `MessageReply` in src/message.rs, and `decode_service_and_status` in
 // src/codec/decode/message_reply.rs.
 use wire::Refusal;
-use wire::byte_at;
-use wire::u16_at;
+use wire_read::byte_at;
+use wire_read::u16_at;
 ghost use mathlib.Core.Path.{_≡_};
 ghost use Rattle.reply_header.specs.Statuses.{isOk, routingWord, isRoutingError};
 ghost use Rattle.reply_header.specs.Headers.{statusAt, readHeader, paperReply};

@@ -5,9 +5,9 @@ use crate::route::first_byte;
 use crate::route::padded_route_at;
 use connection::ForwardCloseRequest;
 use wire::Counted;
-use wire::byte_at;
-use wire::u16_at;
-use wire::u32_at;
+use wire_read::byte_at;
+use wire_read::u16_at;
+use wire_read::u32_at;
 ghost use mathlib.Core.Path.{_≡_};
 ghost use Rattle.request.specs.Reads.{closeAt, paperClose, readClose};
 

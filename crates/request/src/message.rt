@@ -5,7 +5,7 @@ use crate::route::path_at;
 use crate::route::path_size;
 use wire::Counted;
 use wire::Refusal;
-use wire::byte_at;
+use wire_read::byte_at;
 ghost use mathlib.Core.Path.{_≡_};
 ghost use Prim.Native.Nat.{_+_, _≤_};
 ghost use lib.ListN.{length};

@@ -2,8 +2,8 @@
 use epath::check_path;
 use wire::Counted;
 use wire::Refusal;
-use wire::byte_at;
-use wire::part_of;
+use wire_read::byte_at;
+use wire_read::part_of;
 ghost use mathlib.Core.Path.{_≡_};
 ghost use Prim.Native.Nat.{_≤_};
 ghost use Rattle.wire.specs.Answers.{paperCount};

@@ -19,7 +19,7 @@ fn hex(b: u8) {
 pub(crate) fn bytes(s: &[u8]) {
     for i in 0..s.len() {
         words(b" ");
-        hex(wire::byte_at(s, i));
+        hex(wire_read::byte_at(s, i));
     }
 }
 
@@ -36,6 +36,6 @@ fn letter(b: u8) {
 // The bytes of a symbol.
 pub(crate) fn text(s: &[u8]) {
     for i in 0..s.len() {
-        letter(wire::byte_at(s, i));
+        letter(wire_read::byte_at(s, i));
     }
 }

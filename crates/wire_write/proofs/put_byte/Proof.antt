@@ -1,10 +1,10 @@
--- `wire::put_byte` meets its contract. Assumes nothing.
+-- `wire_write::put_byte` meets its contract. Assumes nothing.
 --: use Rattle.wire.proofs.Stores.{store-laws}
 --: * = search (store-laws, needs) fits 5000
 use Rattle.wire.proofs.Stores.{store-laws}
 use borrow.Author.Needs.{needs}
-use Rattle.wire.proofs.put_byte.Statement.{statement}
-use Rattle.wire.proofs.put_byte.Tie as tie
+use Rattle.wire_write.proofs.put_byte.Statement.{statement}
+use Rattle.wire_write.proofs.put_byte.Tie as tie
 
 slice-write-out : tie.Need-slice-write-out
 slice-write-out c = search needs

@@ -1,10 +1,10 @@
--- `wire::put_bytes` meets its contract. Assumes nothing.
+-- `wire_write::put_bytes` meets its contract. Assumes nothing.
 --: use Rattle.wire.proofs.Stores.{run-laws}
 --: * = search (run-laws, needs) fits 5000
 use Rattle.wire.proofs.Stores.{run-laws}
 use borrow.Author.Needs.{needs}
-use Rattle.wire.proofs.put_bytes.Statement.{statement}
-use Rattle.wire.proofs.put_bytes.Tie as tie
+use Rattle.wire_write.proofs.put_bytes.Statement.{statement}
+use Rattle.wire_write.proofs.put_bytes.Tie as tie
 
 returns : tie.Need-returns
 returns c = search (run-laws, needs) fits 5000

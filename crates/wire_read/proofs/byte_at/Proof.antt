@@ -1,10 +1,10 @@
--- `wire::byte_at` meets its contract. Assumes nothing.
+-- `wire_read::byte_at` meets its contract. Assumes nothing.
 --: use Rattle.wire.proofs.Numbers.{number-laws}
 --: * = search (number-laws, needs) fits 5000
 use Rattle.wire.proofs.Numbers.{number-laws}
 use borrow.Author.Needs.{needs}
-use Rattle.wire.proofs.byte_at.Statement.{statement}
-use Rattle.wire.proofs.byte_at.Tie as tie
+use Rattle.wire_read.proofs.byte_at.Statement.{statement}
+use Rattle.wire_read.proofs.byte_at.Tie as tie
 
 shared-slice-read-result : tie.Need-shared-slice-read-result
 shared-slice-read-result c = search needs

@@ -1,10 +1,10 @@
--- `wire::u32_at` meets its contract. Assumes nothing.
+-- `wire_read::u32_at` meets its contract. Assumes nothing.
 --: use Rattle.wire.proofs.Numbers.{number-laws}
 --: * = search (number-laws, needs) fits 5000
 use Rattle.wire.proofs.Numbers.{number-laws}
 use borrow.Author.Needs.{needs}
-use Rattle.wire.proofs.u32_at.Statement.{statement}
-use Rattle.wire.proofs.u32_at.Tie as tie
+use Rattle.wire_read.proofs.u32_at.Statement.{statement}
+use Rattle.wire_read.proofs.u32_at.Tie as tie
 
 returns : tie.Need-returns
 returns c = search (number-laws, needs) fits 5000

@@ -1,14 +1,14 @@
--- `wire::copy` meets its contract. Assumes nothing.
+-- `wire_write::copy` meets its contract. Assumes nothing.
 --: use Rattle.wire.proofs.Stores.{Copying, copy-laws}
 --: use Prim.Native.Nat.{_-_}
 --: Inv-loop = Copying out₀ at src n out i
 --: μ-loop = n - i
 --: * = search (copy-laws, needs) fits 5000
 use Rattle.wire.proofs.Stores.{Copying, copy-laws}
 use Prim.Native.Nat.{_-_}
-use Rattle.wire.proofs.copy.Statement.{statement}
+use Rattle.wire_write.proofs.copy.Statement.{statement}
 use borrow.Author.Needs.{needs}
-use Rattle.wire.proofs.copy.Tie as tie
+use Rattle.wire_write.proofs.copy.Tie as tie
 
 abbrev Inv-loop : tie.InvT-loop
 Inv-loop out₀ at src n i₀ out i = Copying out₀ at src n out i

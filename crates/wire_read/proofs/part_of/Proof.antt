@@ -1,10 +1,10 @@
--- `wire::part_of` meets its contract. Assumes nothing.
+-- `wire_read::part_of` meets its contract. Assumes nothing.
 --: use Rattle.wire.proofs.Stores.{part-laws}
 --: * = search (part-laws, needs) fits 5000
 use Rattle.wire.proofs.Stores.{part-laws}
 use borrow.Author.Needs.{needs}
-use Rattle.wire.proofs.part_of.Statement.{statement}
-use Rattle.wire.proofs.part_of.Tie as tie
+use Rattle.wire_read.proofs.part_of.Statement.{statement}
+use Rattle.wire_read.proofs.part_of.Tie as tie
 
 sub-result : tie.Need-sub-result
 sub-result c = search needs
