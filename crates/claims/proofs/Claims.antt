@@ -60,9 +60,13 @@ use Rattle.request_sizes.proofs.Exact as RequestSizes
 use Rattle.request_encode.proofs.write_message
 use Rattle.request_encode.proofs.write_unconnected_send
 use Rattle.request_encode.proofs.Exact as RequestEncode
-use Rattle.request.proofs.read_message
-use Rattle.request.proofs.read_forward_open
-use Rattle.request.proofs.read_forward_close
+use Rattle.message_read.proofs.read_message
+use Rattle.message_read.proofs.route_at
+use Rattle.message_read.proofs.padded_route_at
+use Rattle.message_read.proofs.Exact as MessageRead
+use Rattle.forward_read.proofs.read_forward_open
+use Rattle.forward_read.proofs.read_forward_close
+use Rattle.forward_read.proofs.Exact as ForwardRead
 use Rattle.request.proofs.read_unconnected_send
 use Rattle.request.proofs.Exact as Request
 use Rattle.reply_header.proofs.is_ok
@@ -137,10 +141,14 @@ pub record Claims : Type 2 where
   -- request_encode
   pub write-message : Exact write_message.ended (λ _. write_message.clauses)
   pub write-unconnected-send : Exact write_unconnected_send.ended (λ _. write_unconnected_send.clauses)
-  -- request
+  -- message_read
   pub read-message : Exact read_message.ended (λ _. read_message.clauses)
+  pub route-at : Exact route_at.ended (λ _. route_at.clauses)
+  pub padded-route-at : Exact padded_route_at.ended (λ _. padded_route_at.clauses)
+  -- forward_read
   pub read-forward-open : Exact read_forward_open.ended (λ _. read_forward_open.clauses)
   pub read-forward-close : Exact read_forward_close.ended (λ _. read_forward_close.clauses)
+  -- request
   pub read-unconnected-send : Exact read_unconnected_send.ended (λ _. read_unconnected_send.clauses)
   -- reply_header
   pub is-ok : Exact is_ok.ended (λ _. is_ok.clauses)
@@ -199,9 +207,11 @@ claims =
       unconnected-send-size = RequestSizes.unconnected-send-size-exact;
       write-message = RequestEncode.write-message-exact;
       write-unconnected-send = RequestEncode.write-unconnected-send-exact;
-      read-message = Request.read-message-exact;
-      read-forward-open = Request.read-forward-open-exact;
-      read-forward-close = Request.read-forward-close-exact;
+      read-message = MessageRead.read-message-exact;
+      route-at = MessageRead.route-at-exact;
+      padded-route-at = MessageRead.padded-route-at-exact;
+      read-forward-open = ForwardRead.read-forward-open-exact;
+      read-forward-close = ForwardRead.read-forward-close-exact;
       read-unconnected-send = Request.read-unconnected-send-exact;
       is-ok = ReplyHeader.is-ok-exact;
       is-routing-error = ReplyHeader.is-routing-error-exact;

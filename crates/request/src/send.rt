@@ -1,9 +1,9 @@
 // Unconnected Send: two bytes, the message's size, the message, a zero where it is odd, path size, a reserved byte, path.
 use crate::SendRead;
-use crate::route::Judged;
-use crate::route::first_byte;
-use crate::route::padded_route_at;
+use crate::first::first_byte;
 use connection::UnconnectedSend;
+use message_read::Judged;
+use message_read::padded_route_at;
 use wire::Counted;
 use wire::Refusal;
 use wire_read::byte_at;
@@ -12,7 +12,8 @@ ghost use mathlib.Core.Path.{_≡_};
 ghost use Prim.Native.Nat.{_%_};
 ghost use lib.ListN.{drop};
 ghost use Rattle.wire.specs.Numbers.{valueOf};
-ghost use Rattle.request.specs.Reads.{verdict, paperJudged, messageRules, paperSend, sendBehind, readSend};
+ghost use Rattle.message_read.specs.Reads.{verdict, paperJudged};
+ghost use Rattle.request.specs.Reads.{messageRules, paperSend, sendBehind, readSend};
 
 // The pad behind n bytes: the byte at a place where n is odd, else none.
 fn pad_at(s: &[u8], at: usize, n: u16) -> u8

@@ -20,7 +20,8 @@ use Rattle.connection.specs.declared.OpenOptions.{OpenOptions}
 use Rattle.connection.specs.declared.Direction.{Direction}
 use Rattle.connection.specs.declared.TriggerType.{TriggerType}
 use Rattle.connection.specs.declared.TransportClass.{TransportClass}
-use Rattle.request.specs.Reads.{mostTicks, firstRules, Opened, opened, openRules, secondPlace, transportPlace, parametersAt, transportAt, routeAt, optionsAt, openEnd, openBehind, readOpen}
+use Rattle.message_read.specs.Reads.{mostTicks, firstRules, routeAt}
+use Rattle.forward_read.specs.Reads.{Opened, opened, openRules, secondPlace, transportPlace, parametersAt, transportAt, optionsAt, openEnd, openBehind, readOpen}
 use Rattle.connection_words.proofs.Words.{word-holds, parameters-read-of-written, WordWas, parameters-written-of-read, trigger-holds, transport-read-of-written, transport-written-of-read}
 use Rattle.request_theorems.proofs.Routes.{Route, words-small, route-back, PathWas, RouteWas, route-was, words-was, route-again}
 use Rattle.wire.proofs.Stores.{part-end, part-last}

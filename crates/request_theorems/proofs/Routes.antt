@@ -14,7 +14,7 @@ use Rattle.epath.specs.Paths.{checkPath}
 use Rattle.epath.proofs.Theorems.{checked-even}
 use Rattle.connection.specs.Limits.{maxPath}
 use Rattle.connection_words.specs.Requests.{words}
-use Rattle.request.specs.Reads.{pathBytes, pathAt, lastPath, routeAt, paddedRouteAt}
+use Rattle.message_read.specs.Reads.{pathBytes, pathAt, lastPath, routeAt, paddedRouteAt}
 
 -- ---- a path that may stand behind a size byte
 

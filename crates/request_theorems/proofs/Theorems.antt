@@ -21,8 +21,10 @@ use Rattle.connection_words.specs.Requests.{messageBytes, openBytes, closeBytes
 use Rattle.connection.specs.declared.OpenOptions.{OpenOptions}
 use Rattle.connection.specs.declared.ForwardCloseRequest.{ForwardCloseRequest}
 use Rattle.connection.specs.declared.UnconnectedSend.{UnconnectedSend}
-use Rattle.request.specs.declared.MessageRequest.{MessageRequest}
-use Rattle.request.specs.Reads.{transportPlace, messageEnd, readMessage, opened, readOpen, closed, readClose, sent, readSend}
+use Rattle.message_read.specs.declared.MessageRequest.{MessageRequest}
+use Rattle.message_read.specs.Reads.{readMessage}
+use Rattle.forward_read.specs.Reads.{transportPlace, opened, readOpen, closed, readClose}
+use Rattle.request.specs.Reads.{messageEnd, sent, readSend}
 use Rattle.request_theorems.proofs.Routes.{Route}
 use Rattle.request_theorems.proofs.RoundTrip.{MessageBack, message-read-of-written, message-written-of-read, CloseFits, CloseBack, close-read-of-written, close-written-of-read, SendFits, SendBack, send-read-of-written, send-written-of-read}
 use Rattle.request_theorems.proofs.OpenTrip.{OpenFits, OpenBack, open-read-of-written, open-written-of-read}
