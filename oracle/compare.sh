@@ -3,7 +3,7 @@
 #   sh oracle/compare.sh PAGES [--seed S] [--count N] [--answers PROGRAM] [--build FOLDER] [--refused]
 #   sh oracle/compare.sh PAGES --record [FOLDER]      writes FOLDER/stdin and FOLDER/stdout (default: crates/answers)
 #   sh oracle/compare.sh PAGES --recorded [FOLDER]    asks the crate again for what stands there
-# --refused shows what the crate did with the replies that we refuse.
+# --refused shows what the crate did with the replies and bodies that we refuse.
 # The last line is `N compared, 0 differ`. Read oracle/README.md.
 set -eu
 here=$(cd "$(dirname "$0")" && pwd)

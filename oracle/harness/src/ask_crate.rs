@@ -1,13 +1,15 @@
 //! The crate's own answers. Everything here comes from what rseip-cip wrote; nothing from the judge.
-//! This file has segments and paths; requests and replies have a file each below it.
+//! This file has segments and paths; requests, replies and bodies have a file each below it.
 
+pub mod bodies;
 pub mod replies;
 pub mod requests;
 
+use crate::case::bodies::{Ask, Items, Join};
 use crate::case::replies::{routing_of_line, Reply};
 use crate::case::requests::{default_of_line, Request};
 use crate::case::{digits, meaning, Plain, Writer, ATTRIBUTE, CLASS, ELEMENT, INSTANCE, PORT, SYMBOL};
-use crate::{bytes_of, enc, guard, Encode};
+use crate::{bytes_of, enc, guard, Encode, OracleError};
 use bytes::{Bytes, BytesMut};
 use rseip_cip::epath::{EPath, PortSegment, Segment};
 
@@ -29,6 +31,32 @@ fn segment(p: &Plain) -> Option<Segment> {
         }
         _ => return None,
     })
+}
+
+/// What the crate did with an input, by kind.
+#[derive(Clone, Copy, PartialEq, Eq, PartialOrd, Ord, Debug)]
+pub enum Did {
+    Accepted,
+    /// its error that has a failed status
+    Failed,
+    /// its error for too few bytes
+    TooShort,
+    /// its error for a value
+    BadValue,
+    OtherError,
+    /// a walk that says there is no more
+    Ended,
+    Panicked,
+}
+
+impl Did {
+    fn of(e: &OracleError) -> Did {
+        match e {
+            OracleError::Short { .. } => Did::TooShort,
+            OracleError::InvalidValue(_) => Did::BadValue,
+            OracleError::Custom(_) => Did::OtherError,
+        }
+    }
 }
 
 /// What the crate wrote; Err where it is not at one with itself, or panicked.
@@ -94,8 +122,8 @@ pub fn writer_answer(wrote: &Wrote, room: Option<u32>) -> Option<Vec<u8>> {
     Some(digits(&a))
 }
 
-/// The answer to a line of a writer, a size, the default, the setter, or of 20 to 22 and 27; None where it is not in the
-/// domain.
+/// The answer to a line of a writer, a size, the default, the setter, or of 20 to 22, 27 and 30 to 34; None where it is
+/// not in the domain, or the crate says only a part of it.
 pub fn of_line(line: &[u8]) -> Option<Vec<u8>> {
     if let Some(w) = Writer::of_line(line) {
         return answer(&w);
@@ -111,6 +139,18 @@ pub fn of_line(line: &[u8]) -> Option<Vec<u8>> {
     }
     if let Some(s) = routing_of_line(line) {
         return replies::routing_answer(&s);
+    }
+    if let Some(i) = Items::of_line(line) {
+        return bodies::write_answer(&i).ok();
+    }
+    if let Some((ask, input)) = Ask::of_line(line) {
+        return match bodies::Walked::new(&input).says(ask) {
+            bodies::Says::Line(a) => Some(a),
+            _ => None,
+        };
+    }
+    if let Some(j) = Join::of_line(line) {
+        return bodies::join_answer(&j);
     }
     match crate::case::undigits(line)?[..] {
         [0x15, value] => Some(requests::setter_answer(value)),

@@ -1,6 +1,7 @@
 //! A case as a value, and the line that asks it. The judge does not use this file, nor those below it: it takes lines
 //! apart by itself.
 
+pub mod bodies;
 pub mod fields;
 pub mod replies;
 pub mod requests;

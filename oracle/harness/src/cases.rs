@@ -1,6 +1,11 @@
 //! The cases. Each group of operations has files of its own below; a later landing adds its file, and a line to
 //! `fixed` and to `random`.
 
+pub mod bodies;
+pub mod bodies_drawn;
+pub mod bodies_joins;
+pub mod bodies_reads;
+pub mod bodies_writes;
 pub mod damage;
 pub mod envelopes;
 pub mod lines;
@@ -19,10 +24,10 @@ pub mod requests_reads;
 pub mod scripts;
 
 use crate::ask_crate;
-use crate::ask_crate::replies::Beside;
-use crate::case::replies::Forward;
+use crate::case::replies::{Forward, Status};
 use crate::case::requests::Record;
 use crate::case::{reader_line, Plain, Writer};
+use crate::refused::Beside;
 use crate::rng::Rng;
 
 /// Who says what the answer must be.
@@ -39,6 +44,8 @@ pub enum Truth {
     Record(Record),
     /// the judge; where 23 to 25 accepts, the crate has to read this reply back from what was written
     Written(Forward),
+    /// the judge; of a failed item of a body the crate says this status, and nothing more
+    Failed(Status),
     /// the judge; the crate was asked too, and what it did is counted by kind
     Beside(Beside),
     /// the judge alone
@@ -47,7 +54,7 @@ pub enum Truth {
 
 impl Truth {
     pub fn is_crates(&self) -> bool {
-        matches!(self, Truth::Crate(_) | Truth::List { .. } | Truth::Front { .. })
+        matches!(self, Truth::Crate(_) | Truth::List { .. } | Truth::Front { .. } | Truth::Failed(_))
     }
 }
 
@@ -69,12 +76,15 @@ pub fn fixed(to: &mut Sink) {
     replies_reads::fixed(to);
     replies_writes::fixed(to);
     envelopes::fixed(to);
+    bodies_writes::fixed(to);
+    bodies_reads::fixed(to);
+    bodies_joins::fixed(to);
     lines::fixed(to);
 }
 
 /// One draw: a case or a few that belong together.
 pub fn random(rng: &mut Rng, to: &mut Sink) {
-    match rng.below(200) {
+    match rng.below(226) {
         0..=16 => path_lists::random(rng, to),
         17..=43 => path_lists::random_segment(rng, to),
         44..=54 => path_reads::random(rng, to),
@@ -88,7 +98,11 @@ pub fn random(rng: &mut Rng, to: &mut Sink) {
         189..=191 => replies_drawn::random_refusal(rng, to),
         192 => replies_drawn::random_routing(rng, to),
         193..=195 => envelopes::random(rng, to),
-        _ => lines::random(rng, to),
+        196..=199 => lines::random(rng, to),
+        200..=214 => bodies_drawn::random_write(rng, to),
+        215..=219 => bodies_drawn::random(rng, to),
+        220..=223 => bodies_drawn::random_read(rng, to),
+        _ => bodies_drawn::random_refusal(rng, to),
     }
 }
 

@@ -1,8 +1,9 @@
 //! The judge: what every line must be answered where no Rust can say it. Written from document 01 (refusals, limits,
-//! segments) and from docs/ANSWERS.md; where those two leave a point open, the comment names the entry
+//! layouts) and from docs/ANSWERS.md; where those two leave a point open, the comment names the entry
 //! of docs/DECISIONS.md. It shares no code with the cases, the crate's side or the program that is asked.
 //! This file has the lines and their fields; each group of operations has a file below it.
 
+mod bodies;
 mod paths;
 mod reader;
 mod replies;
@@ -14,7 +15,7 @@ use std::fmt::Write;
 const LONGEST: usize = 600_000;
 /// Longest lent output.
 const MOST_ROOM: u32 = 70_000;
-/// A message, a reply or a request record, whole.
+/// A message, a reply, a request record or a body, whole.
 const LONGEST_RECORD: usize = 65_535;
 /// What a lent output holds before the call.
 const FILL: u8 = 0xA5;
@@ -62,6 +63,7 @@ fn case(bytes: &[u8]) -> Option<Vec<u8>> {
         0x01..=0x07 => paths::case(op, &mut f),
         0x10..=0x15 | 0x18..=0x1B => requests::case(op, &mut f),
         0x20..=0x27 => replies::case(op, &mut f),
+        0x30..=0x34 => bodies::case(op, &mut f),
         _ => None,
     }
 }
@@ -92,6 +94,10 @@ impl<'a> Fields<'a> {
     fn u32(&mut self) -> Option<u32> {
         let low = self.u16()?;
         Some(u32::from(low) + 65_536 * u32::from(self.u16()?))
+    }
+    fn u64(&mut self) -> Option<u64> {
+        let low = self.u32()?;
+        Some(u64::from(low) + (u64::from(self.u32()?) << 32))
     }
     fn run(&mut self) -> Option<&'a [u8]> {
         let n = self.u32()?;

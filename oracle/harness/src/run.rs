@@ -1,6 +1,7 @@
 //! Asks the program `answers` and holds what it says against the crate and the judge.
 
 use crate::ask_crate;
+use crate::case::replies::Status;
 use crate::case::{meaning, seg_at, u32_at, undigits, Plain, SYMBOL};
 use crate::cases::{self, Case, Truth};
 use crate::judge;
@@ -171,6 +172,14 @@ pub fn judge_case(case: &Case, ours: &[u8], tally: &mut Tally) {
                 tally.same(Source::Crate, line, read.is_ok(), || format!("of what was written it reads {read:?}"), ours);
             }
         }
+        Truth::Failed(status) => {
+            tally.add(Source::Judge, line, &judged, ours);
+            let same = |answer: &[u8]| status_read(answer).as_ref() == Some(status);
+            tally.same(Source::Crate, line, same(ours), || format!("{status:?}"), ours);
+            if !same(&judged) {
+                tally.documents(line, format!("{status:?}").as_bytes(), &judged);
+            }
+        }
         Truth::Beside(beside) => {
             tally.add(Source::Judge, line, &judged, ours);
             tally.beside(line, *beside, &judged);
@@ -204,6 +213,17 @@ fn read_front(answer: &[u8], input: &[u8]) -> Option<(Plain, u32)> {
         return None;
     }
     Some((meaning(input, &seg_at(&b, 1)?)?, u32_at(&b, 14)?))
+}
+
+/// The status in an answer to 33.
+fn status_read(answer: &[u8]) -> Option<Status> {
+    let b = undigits(answer)?;
+    match b[..] {
+        [0, _, general, words, low, high, ..] if b.len() == 14 => {
+            Some(Status { general, words, word: u16::from_le_bytes([low, high]) })
+        }
+        _ => None,
+    }
 }
 
 fn text(list: &[Plain]) -> String {

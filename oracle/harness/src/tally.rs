@@ -1,7 +1,6 @@
 //! Counts, and the differing cases that are shown.
 
-use crate::ask_crate::replies::Beside;
-use crate::refused::Refused;
+use crate::refused::{Beside, Refused};
 use std::collections::BTreeMap;
 
 #[derive(Clone, Copy, PartialEq, Eq)]
@@ -84,13 +83,16 @@ impl Tally {
         }
     }
 
-    /// The crate was asked beside the judge, and its answer is not to be compared: a reply that we refuse is counted by
-    /// kind. One that the judge accepts is refused by the crate only where we are told otherwise than it decides.
+    /// The crate was asked beside the judge, and its answer is not to be compared: what we refuse is counted by kind,
+    /// and of good bodies the items past the domain. A reply that the judge accepts is refused by the crate only where
+    /// we are told otherwise than it decides.
     pub fn beside(&mut self, line: &[u8], beside: Beside, judge_says: &[u8]) {
-        let number = std::str::from_utf8(judge_says).ok().and_then(|t| u8::from_str_radix(t.get(..2)?, 16).ok());
+        let text = std::str::from_utf8(judge_says).ok().filter(|t| *t != "bad");
+        let number = text.and_then(|t| u8::from_str_radix(t.get(..2)?, 16).ok());
         match number {
-            Some(0) if beside.told_alike => self.documents(line, format!("{:?}", beside.did).as_bytes(), judge_says),
-            Some(0) | None => {}
+            Some(0) if beside.binds() => self.documents(line, format!("{beside:?}").as_bytes(), judge_says),
+            None => {}
+            Some(0) if matches!(beside, Beside::Reply(_)) => {}
             Some(n) => self.refused.add((operation(line), n, beside), line),
         }
     }
@@ -144,9 +146,9 @@ impl Tally {
 
 /// The operation of a line; a later landing adds its own.
 fn operation(line: &[u8]) -> &'static str {
-    const KNOWN: [&str; 25] = [
+    const KNOWN: [&str; 30] = [
         "01", "02", "03", "04", "05", "06", "07", "10", "11", "12", "13", "14", "15", "18", "19", "1A", "1B", "20", "21", "22",
-        "23", "24", "25", "26", "27",
+        "23", "24", "25", "26", "27", "30", "31", "32", "33", "34",
     ];
     KNOWN.into_iter().find(|op| line.starts_with(op.as_bytes())).unwrap_or("none")
 }

@@ -4,6 +4,7 @@
 //! the domain where what we are told is what the crate decides; on success neither looks. An input is in the domain up
 //! to 65,535 bytes. There the crate has to accept exactly what document 01 accepts.
 
+use super::Did;
 use crate::case::fields::Take;
 use crate::case::replies::{Body, Forward, Ids, Reply, Status};
 use crate::case::{digits, undigits};
@@ -12,18 +13,6 @@ use rseip_cip::codec::decode::message_reply::decode_service_and_status;
 use rseip_cip::connection::{ForwardCloseReply, ForwardOpenReply, ForwardRequestFail};
 
 const LONGEST_REPLY: usize = 65_535;
-
-/// What the crate did with an input, by kind.
-#[derive(Clone, Copy, PartialEq, Eq, PartialOrd, Ord, Debug)]
-pub enum Did {
-    Accepted,
-    /// its error for too few bytes
-    TooShort,
-    /// its error for a value
-    BadValue,
-    OtherError,
-    Panicked,
-}
 
 /// What the crate did with a reply that is not to be compared.
 #[derive(Clone, Copy, PartialEq, Eq, PartialOrd, Ord, Debug)]
@@ -34,13 +23,7 @@ pub struct Beside {
 }
 
 fn did<R>(read: impl FnOnce() -> Result<R, OracleError>) -> Result<R, Did> {
-    match guard(read) {
-        Ok(Ok(r)) => Ok(r),
-        Ok(Err(OracleError::Short { .. })) => Err(Did::TooShort),
-        Ok(Err(OracleError::InvalidValue(_))) => Err(Did::BadValue),
-        Ok(Err(OracleError::Custom(_))) => Err(Did::OtherError),
-        Err(_) => Err(Did::Panicked),
-    }
+    guard(read).map_err(|_| Did::Panicked)?.map_err(|e| Did::of(&e))
 }
 
 fn status(s: &rseip_cip::Status) -> Status {
@@ -105,11 +88,16 @@ fn line(r: &Reply) -> Result<Vec<u8>, Did> {
         return Ok(read.answer(r.input.len() - left - read.data().len()));
     }
     let (service, s, left) = header(&r.input)?;
-    let s = status(&s);
+    Ok(header_answer(service, &s, r.input.len() - left, left))
+}
+
+/// What was read of a header, and where its data lies.
+pub fn header_answer(service: u8, s: &rseip_cip::Status, start: usize, len: usize) -> Vec<u8> {
+    let s = status(s);
     let mut a = vec![0, service, s.general, s.words];
     a.extend(s.word.to_le_bytes());
-    a.extend([(r.input.len() - left) as u32, left as u32].map(u32::to_le_bytes).concat());
-    Ok(digits(&a))
+    a.extend([start as u32, len as u32].map(u32::to_le_bytes).concat());
+    digits(&a)
 }
 
 /// The answer line of 20, 21 or 22; Err where the crate does not accept, or the case is not in the domain.

@@ -2,7 +2,7 @@
 //!                                asks the program, the crate and the judge
 //! compare --record FOLDER        writes FOLDER/stdin and FOLDER/stdout
 //! compare --recorded FOLDER      asks the crate and the judge again for what stands there
-//! With --refused the counts come behind a table of what the crate did with the replies that we refuse.
+//! With --refused the counts come behind a table of what the crate did with the replies and bodies that we refuse.
 //! The last line is `N compared, D differ`; the status is 1 where anything differs.
 
 use harness::tally::Tally;

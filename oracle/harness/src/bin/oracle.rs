@@ -10,6 +10,7 @@
 //!   env0 HEX | env1 HEX             null/B2, A1/B1 (rests on the stand-in CommonPacketIter)
 //! answers: ok .. | err short|two-words|status G E|other TEXT | panic TEXT | na TEXT
 use bytes::{Bytes, BytesMut};
+use harness::ask_crate::bodies::{self, failed_status, Given};
 use harness::*;
 use rseip_cip::codec::decode::message_reply::*;
 use rseip_cip::connection::*;
@@ -18,7 +19,6 @@ use rseip_cip::service::{request::UnconnectedSend, CommonServices};
 use rseip_cip::{MessageReply, MessageRequest, Status};
 use rseip_core::cip::CommonPacketIter;
 use smallvec::SmallVec;
-use std::cell::Cell;
 use std::io::{BufRead, Write};
 
 fn num(s: &str) -> Result<u64, String> {
@@ -90,34 +90,15 @@ fn err(e: OracleError) -> String {
     match e {
         OracleError::Short { .. } => "err short".into(),
         OracleError::InvalidValue(t) if t.starts_with("expected one of 0,1,") => "err two-words".into(),
-        OracleError::Custom(t) if t.contains("CIP general status: ") => {
-            let g = t.split("general status: ").nth(1).unwrap();
-            let gen: String = g.chars().take_while(|c| c.is_ascii_digit()).collect();
-            let ext = t
-                .split("extended status: ")
-                .nth(1)
-                .map(|x| x.chars().take_while(|c| c.is_ascii_digit()).collect::<String>())
-                .unwrap_or("-".into());
-            format!("err status {} {}", gen, ext)
-        }
-        e => format!("err other {:?}", e),
+        e => match failed_status(&e) {
+            Some(s) if s.words == 1 => format!("err status {} {}", s.general, s.word),
+            Some(s) => format!("err status {} -", s.general),
+            None => format!("err other {:?}", e),
+        },
     }
 }
 fn st(s: &Status) -> String {
     format!("{} {}", s.general, s.extended.map(|x| x.to_string()).unwrap_or("-".into()))
-}
-thread_local!(static SPAN: Cell<usize> = const { Cell::new(0) });
-/// item type that reads exactly the number of bytes told to it beforehand
-struct Exact(Vec<u8>);
-impl<'de> Decode<'de> for Exact {
-    fn decode<D: Decoder<'de>>(mut d: D) -> Result<Self, D::Error> {
-        use bytes::Buf;
-        let n = SPAN.with(|s| s.get());
-        d.ensure_size(n)?;
-        let mut v = vec![0; n];
-        d.buf_mut().copy_to_slice(&mut v);
-        Ok(Exact(v))
-    }
 }
 fn fail(f: &ForwardRequestFail) -> String {
     format!(
@@ -144,35 +125,13 @@ fn forward<R>(m: &MessageReply<Either<R, ForwardRequestFail>>, show: impl FnOnce
     format!("{} {} {}", m.reply_service, st(&m.status), data)
 }
 fn walk(b: &[u8]) -> String {
-    // spans as the offsets say; the data part of an item is its span less its header (4 or 6)
-    let le = |i: usize| b.get(i).copied().unwrap_or(0) as usize + 256 * b.get(i + 1).copied().unwrap_or(0) as usize;
-    let n = le(0);
-    let mut it = Capture::oracle_walk(dec(b));
-    let mut out = vec![];
-    for k in 0..n + 2 {
-        let span = if k < n {
-            let s = le(2 + 2 * k);
-            let e = if k + 1 < n { le(4 + 2 * k) } else { b.len() };
-            let h = 4 + 2 * b.get(s + 3).copied().unwrap_or(0) as usize;
-            e.saturating_sub(s).saturating_sub(h)
-        } else {
-            0
-        };
-        SPAN.with(|s| s.set(span));
-        match guard(|| it.next::<Exact>()) {
-            Ok(None) => {
-                out.push("end".into());
-                break;
-            }
-            Ok(Some(Ok(m))) => out.push(format!("item {} {} {}", m.reply_service, st(&m.status), flat(&m.data.0))),
-            Ok(Some(Err(e))) => out.push(err(e)),
-            Err(p) => {
-                out.push(format!("panic {}", p));
-                break;
-            }
-        }
-    }
-    format!("ok {}", out.join(" ; "))
+    let text = |given| match given {
+        Given::Item { service, status, data, .. } => format!("item {} {} {}", service, st(&status), flat(&data)),
+        Given::Error(e) => err(e),
+        Given::End => "end".into(),
+        Given::Panic(p) => format!("panic {}", p),
+    };
+    format!("ok {}", bodies::walk(b).into_iter().map(text).collect::<Vec<_>>().join(" ; "))
 }
 fn line(t: &[&str]) -> Result<String, String> {
     let n = |i: usize| -> Result<u64, String> { num(t.get(i).ok_or("too few")?) };

@@ -43,6 +43,9 @@ impl Take<'_> {
         self.0 = &self.0[4..];
         Some(n)
     }
+    pub fn u64(&mut self) -> Option<u64> {
+        Some(u64::from(self.u32()?) | u64::from(self.u32()?) << 32)
+    }
     pub fn run(&mut self) -> Option<Vec<u8>> {
         let n = self.u32()? as usize;
         let run = self.0.get(..n)?.to_vec();

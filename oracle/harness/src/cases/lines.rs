@@ -2,8 +2,9 @@
 //! inputs with lines that have none are in scripts.rs.
 
 use super::path_lists::{any_list, scattered};
-use super::{envelopes, replies, replies_drawn, requests, requests_drawn, Case, Sink, Truth};
+use super::{bodies, bodies_drawn, envelopes, replies, replies_drawn, requests, requests_drawn, Case, Sink, Truth};
 use crate::ask_crate;
+use crate::case::bodies::{Ask, Items, Join};
 use crate::case::replies::Reply;
 use crate::case::requests::{default_line, Record, Request};
 use crate::case::*;
@@ -40,6 +41,9 @@ pub fn good_lines() -> Vec<Vec<u8>> {
     }
     v.push(reader_line(0x20, &[0x8E, 0, 8, 1, 3, 0]));
     v.extend(envelopes::samples().iter().skip(1).step_by(2).map(|e| reader_line(0x26, &e.wire())));
+    v.push(Items::of(&[vec![0xAA], vec![0xBB, 0xCC]], 10).line());
+    v.extend([Ask::Count, Ask::Item(1), Ask::Reply(1)].map(|a| a.line(&bodies::TWO_WORDS)));
+    v.push(Join { first: bodies::JOIN_FIRST.to_vec(), second: bodies::JOIN_SECOND.to_vec(), room: 12 }.line());
     v
 }
 
@@ -171,9 +175,20 @@ pub fn random(rng: &mut Rng, to: &mut Sink) {
     plain.truncate(5);
     let (pool, list) = scattered(rng, &plain);
     let room = rng.below(50) as u32;
-    let line = match rng.below(4) {
+    let line = match rng.below(5) {
         0 => Writer { op: rng.pick(&[2, 4]), pool, list, room }.line(),
         1 | 2 => Request { head: requests_drawn::any_head(rng), pool, list, room }.line(),
+        3 => {
+            let items = bodies_drawn::any_replies(rng);
+            let input = bodies::body(&items);
+            match rng.below(5) {
+                0 => Items::of(&items, room).line(),
+                1 => Ask::Count.line(&input),
+                2 => Ask::Item(rng.below(8)).line(&input),
+                3 => Ask::Reply(rng.below(8)).line(&input),
+                _ => Join { first: input, second: bodies::JOIN_SECOND.to_vec(), room }.line(),
+            }
+        }
         _ => {
             let f = replies_drawn::any_forward(rng);
             match rng.below(4) {

@@ -3,6 +3,7 @@
 use super::{Case, Sink, Truth};
 use crate::ask_crate::replies::{answer, routing, routing_answer};
 use crate::case::replies::{routing_line, status, Body, Forward, Ids, Reply, Status};
+use crate::refused::Beside;
 
 pub const NO_ERROR: Status = Status { general: 0, words: 0, word: 0 };
 
@@ -67,7 +68,8 @@ pub fn with(mut f: Forward, status: Status) -> Forward {
 /// An input for 20, 21 or 22: the crate's where it accepts in the domain, else the judge's.
 pub fn ask(to: &mut Sink, op: u8, routing: u8, input: &[u8]) {
     let r = Reply { op, routing, input: input.to_vec() };
-    to(Case { line: r.line(), truth: answer(&r).map_or_else(Truth::Beside, Truth::Crate) });
+    let truth = answer(&r).map_or_else(|b| Truth::Beside(Beside::Reply(b)), Truth::Crate);
+    to(Case { line: r.line(), truth });
 }
 
 /// One input for the three readers, told both ways.

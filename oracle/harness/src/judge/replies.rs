@@ -1,7 +1,7 @@
 //! The judge on replies: the fields of a case, the writers 23 to 25, and 27. The readers, 20 to 22 and 26, are in the
 //! file below.
 
-mod readers;
+pub mod readers;
 
 use super::{answer, low_first, two, writer, Fields, Judged};
 

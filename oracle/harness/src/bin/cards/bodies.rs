@@ -60,6 +60,12 @@ pub fn run(t: &mut T) {
         }
     });
 
+    t.note("items of 65,530 bytes and of 1 (doc: 3): the second offset", {
+        let b =
+            Capture::oracle_body(SmallVec::<[Bytes; 4]>::from_vec(vec![Bytes::from(vec![1; 65_530]), Bytes::from_static(&[2])]));
+        guard(|| bytes_of(&b)).map_or_else(|p| format!("PANIC {}", p), |v| hex(&v[4..6]))
+    });
+
     println!("\n== bodies: reply walk");
     let card = unhex("02 00 06 00 0E 00 8E 00 01 02 00 00 00 00 8E 00 00 00 00 00 48 42");
     let mut it = walk(&card);
@@ -96,6 +102,7 @@ pub fn run(t: &mut T) {
     w!("item 0 too long for its type (type reads 2 of 4)", "0200 0600 0E00 8E000000 01020304 8E000000 05060708", u16, u32, u32);
     w!("type takes all: item 1 lost quietly", "0200 0600 0E00 8E000000 01020304 8E000000 05060708", Bytes, Bytes, Bytes);
     w!("item of 3 bytes (doc: 1 when asked)", "0200 0600 0900 8E0000 8E000000", (), (), ());
+    w!("third offset not larger (doc: 7 before any item)", "0300 0800 0C00 0C00 8E000000 AA", (), (), ());
     w!(
         "third offset not larger, after item 0 was handed out (doc: 7 before any item)",
         "0300 0800 0C00 0C00 8E000000 8E000000",

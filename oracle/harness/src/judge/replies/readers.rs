@@ -6,7 +6,11 @@ use super::{two, Judged};
 
 /// Service, status and the data part. What is wrong with the status is said for failed ones too.
 pub fn reply(input: &[u8]) -> Judged<Vec<u8>> {
-    let mut r = Reader::new(input)?;
+    reply_from(Reader::new(input)?)
+}
+
+/// The same from where a reader stands; starts are counted in its whole input.
+pub fn reply_from(mut r: Reader) -> Judged<Vec<u8>> {
     let head = header(&mut r)?;
     Ok([head.fields(), r.rest().fields()].concat())
 }
