@@ -1,9 +1,12 @@
 //! The recorded cases and answers: two files, `stdin` and `stdout`. List 1 holds the crate's answers, list 2 ours,
 //! that is the judge's. Neither holds anything that our program said.
 
+mod crate_bodies;
 mod crate_list;
 mod crate_replies;
 mod crate_requests;
+mod our_bodies;
+mod our_body_reads;
 mod our_envelopes;
 mod our_list;
 mod our_replies;
@@ -31,13 +34,16 @@ const HEAD_1: &str = ": the answers of the Rust crate rseip-cip 0.2.1.
 # bytes is ours). The default Forward Open's serial is the case's, where the crate draws one by chance.
 # Operations 20 to 22 and 27; the crate has no writer of replies. Starts are counted from where its reader stood. A
 # failure is told to be a routing error exactly where the crate's is_routing_error says so.
+# Operations 30 to 34: 30 and 34 from its encoder, which has the items of both bodies; 31 and 32 from the body that it
+# writes of the items that the input's table names, which is the input; 33 from its reply walk, each item read to its end.
 ";
 
 const HEAD_2: &str = ": ours. No Rust gave these answers.
 # Made by the same command: oracle/harness/src/judge.rs answered each, which is written from document 01 and from
 # docs/ANSWERS.md, apart from the program that is asked. Refusals and their order, the readers, symbols that no
 # Rust String holds, an Unconnected Send of what is no message, the writers of replies, a failure that is told otherwise
-# than the crate decides, the envelope, and lines that are no case. R1 to R7 and E1 to E4 are rows of docs/DIFFERENCES.md.
+# than the crate decides, the envelope, failed items of a body, and lines that are no case. R1 to R7, E1 to E4 and B1 to
+# B11 are rows of docs/DIFFERENCES.md.
 ";
 
 /// The text of `stdin`, as it grows.
@@ -65,6 +71,7 @@ pub fn write(folder: &str) -> Result<()> {
     crate_list::write(&mut s);
     crate_requests::write(&mut s);
     crate_replies::write(&mut s);
+    crate_bodies::write(&mut s);
     let crate_part = s.0.len();
     s.0.extend([LIST_2, HEAD_2].concat().bytes());
     our_list::write(&mut s);

@@ -14,6 +14,7 @@ pub fn write(s: &mut Script) {
     super::our_requests::write(s);
     super::our_replies::write(s);
     super::our_envelopes::write(s);
+    super::our_bodies::write(s);
     no_case(s);
     freedoms(s);
 }
