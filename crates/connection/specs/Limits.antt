@@ -7,7 +7,7 @@ use mathlib.Core.Bool.{Bool, true, false}
 abbrev pub maxPath : ℕ
 maxPath = 254
 
--- bytes of a message, a reply or a request record
+-- bytes of a message, a reply, a request record or a body
 abbrev pub maxRecord : ℕ
 maxRecord = 65535
 

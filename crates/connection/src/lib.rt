@@ -8,7 +8,7 @@ ghost use Rattle.connection.specs.Defaults.{defaultParameters, defaultOp
 // Bytes of a path behind a size byte.
 pub const MAX_PATH: usize = 254;
 
-// Bytes of a message, a reply or a request record.
+// Bytes of a message, a reply, a request record or a body.
 pub const MAX_RECORD: usize = 65535;
 
 // Bytes of application data in a reply.

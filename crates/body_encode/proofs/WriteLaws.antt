@@ -1,0 +1,246 @@
+-- Each end of the body's sizer and writer, and a turn of each loop, as a law with plain conditions. Assumes nothing.
+use Prim.Native.Nat.{ℕ, suc, _+_, _*_, _-_, _≤_, _<_}
+use mathlib.Core.Path.{_≡_, refl, sym, ap, _∙_}
+use mathlib.Core.List.{List, [], _∷_, _++_, map}
+use native.Mathlib.Numerals.{add-one}
+use native.Mathlib.Omega.{arith}
+use lib.ListN.{length, getD, take, drop, drop-of-length-le}
+use lib.Seq.{sets, drop-cons, length-sets}
+use mir.Val.{Fits}
+use mir.Syntax.{w16, w64}
+use Rattle.wire.specs.Numbers.{lowFirst}
+use Rattle.wire.specs.Parts.{part}
+use Rattle.wire.specs.Folds.{joined}
+use Rattle.wire.specs.Answers.{Answer, done, refused, paperSize, under, over, judged, plus}
+use Rattle.wire.specs.Refusals.{number}
+use Rattle.wire.specs.declared.Refusal.{Refusal}
+use Rattle.wire.specs.declared.Wrote.{Wrote}
+use Rattle.wire.specs.declared.Wrote.the-variants.{Size, Refused}
+use Rattle.wire.proofs.Rules.{rules, all-keep, all-were, then-stops, then-goes, Went, then-were}
+use Rattle.wire.proofs.Answers.{Parts, plus-parts, plus-none, plus-assoc}
+use Rattle.wire.proofs.Numbers.{low-length}
+use Rattle.wire.proofs.Stores.{sets-append}
+use Rattle.connection.specs.Limits.{maxRecord}
+use Rattle.body_encode.specs.Bodies.{tableEnd, starts, twoBytes, flat, bodyOf, cut, total, itemsSize, bodySize}
+use Rattle.body_encode.proofs.BodyLaws.{length-two, length-starts, length-body, length-flat, cut-length, cut-flat, cut-lengths}
+
+-- the list from i on is what stands at i, and the list from i + 1 on
+next : (ns : List ℕ) (i n : ℕ) → n ≡ getD ns i 0 → i < length ns → drop i ns ≡ n ∷ drop (i + 1) ns
+next ns i n e h =
+    drop-cons ns i 0 h
+    ∙ ap (λ (k : ℕ). k ∷ drop (suc i) ns) (sym e)
+    ∙ ap (λ (k : ℕ). n ∷ drop k ns) (sym (add-one i))
+
+-- ---- the loop that judges lengths: so many lent bytes are left
+module _ (lent : ℕ) (ns : List ℕ) where
+  pub record Judging (left i : ℕ) : Type 0 where
+    pub inside : left ≤ lent
+    pub rest : plus (done (lent - left)) (itemsSize left (drop i ns)) ≡ itemsSize lent ns
+
+  pub judging-first : Judging lent 0
+  judging-first =
+      let e : lent - lent ≡ 0 = omega arith in
+      record { inside = omega arith; rest = rw e (plus-none (itemsSize lent ns)) }
+
+  module _ (left i : ℕ) (m : Judging left i) where
+    module _ (n : ℕ) (is : n ≡ getD ns i 0) (h : i < length ns) where
+      turn : (y : Answer ℕ) → y ≡ judged (over n left 11 ∷ under n 1 7 ∷ []) (plus (done n) (itemsSize (left - n) (drop (i + 1) ns)))
+          → plus (done (lent - left)) y ≡ itemsSize lent ns
+      unfolding itemsSize
+      turn y e =
+          ap (plus (done (lent - left))) e
+          ∙ ap (λ (l : List ℕ). plus (done (lent - left)) (itemsSize left l)) (sym (next ns i n is h))
+          ∙ m .rest
+
+      pub judging-outside : left < n → refused 11 ≡ itemsSize lent ns
+      judging-outside l = turn (refused 11) (search rules)
+
+      pub judging-empty : n ≤ left → n ≡ 0 → refused 7 ≡ itemsSize lent ns
+      judging-empty l z = let k : n < 1 = omega arith in turn (refused 7) (search rules)
+
+      pub judging-more : n ≤ left → (n ≡ 0 → ⊥) → Judging (left - n) (i + 1)
+      judging-more l z =
+          let p : n ≤ lent = omega (arith, m .inside) in
+          let some : 1 ≤ n = omega arith in
+          let e : lent - (left - n) ≡ (lent - left) + n = omega (arith, m .inside) in
+          let t : List ℕ = drop (i + 1) ns in
+          let g : plus (done n) (itemsSize (left - n) t) ≡ judged (over n left 11 ∷ under n 1 7 ∷ []) (plus (done n) (itemsSize (left - n) t))
+          = sym (all-keep (over n left 11 ∷ under n 1 7 ∷ []) (plus (done n) (itemsSize (left - n) t)) (l, (some, tt))) in
+          record {
+            inside = omega (arith, m .inside);
+            rest =
+                ap (λ (k : ℕ). plus (done k) (itemsSize (left - n) t)) e
+                ∙ plus-assoc (done (lent - left)) (done n) (itemsSize (left - n) t)
+                ∙ turn (plus (done n) (itemsSize (left - n) t)) g;
+          }
+
+    pub judging-ends : length ns ≤ i → done (lent - left) ≡ itemsSize lent ns
+    unfolding itemsSize
+    judging-ends h =
+        let e : lent - left ≡ lent - left + 0 = omega arith in
+        ap done e ∙ ap (λ (l : List ℕ). plus (done (lent - left)) (itemsSize left l)) (sym (drop-of-length-le ns h)) ∙ m .rest
+
+pub ruleset judging-laws = (judging-first, judging-outside, judging-empty, judging-more, judging-ends)
+
+-- ---- what a size says of the lengths
+pub record Sized (lent : ℕ) (ns : List ℕ) (n : ℕ) : Type 0 where
+  pub sum : n ≡ total ns
+  pub inside : n ≤ lent
+  pub many : length ns ≤ n
+
+pub sized : (lent : ℕ) (ns : List ℕ) (n : ℕ) → itemsSize lent ns ≡ done n → Sized lent ns n
+unfolding itemsSize
+sized lent [] n h = let e : 0 ≡ n = cc in record { sum = sym e; inside = omega arith; many = omega arith }
+sized lent (m ∷ ns) n h =
+    let w = all-were (over m lent 11 ∷ under m 1 7 ∷ []) (plus (done m) (itemsSize (lent - m) ns)) n h in
+    let l : m ≤ lent = w .0 .0 in
+    let s : 1 ≤ m = w .0 .1 .0 in
+    let p : Parts (done m) (itemsSize (lent - m) ns) n = plus-parts (done m) (itemsSize (lent - m) ns) n (w .1) in
+    let f : done m ≡ done (p .first) = p .first-is in
+    let e : m ≡ p .first = cc in
+    let r : Sized (lent - m) ns (p .second) = sized (lent - m) ns (p .second) (p .second-is) in
+    record { sum = omega (arith, p .sum, r .sum); inside = omega (arith, p .sum, r .inside); many = omega (arith, p .sum, r .many) }
+
+-- ---- the ends of the sizer
+module _ (lent : ℕ) (ns : List ℕ) (w : Wrote) (is : paperSize w ≡ itemsSize lent ns) where
+  pub size-refused : (e : Refusal) → w ≡ Refused e → refused (number e) ≡ bodySize lent ns
+  unfolding bodySize
+  size-refused e h =
+      then-stops (itemsSize lent ns) (λ n. judged (over (tableEnd (length ns) + n) maxRecord 3 ∷ []) (done (tableEnd (length ns) + n))) (number e) (sym is ∙ ap paperSize h)
+
+  module _ (n : ℕ) (h : w ≡ Size n) where
+    found : itemsSize lent ns ≡ done n
+    found = sym is ∙ ap paperSize h
+
+    goes : (z : Answer ℕ) → z ≡ judged (over (tableEnd (length ns) + n) maxRecord 3 ∷ []) (done (tableEnd (length ns) + n)) → z ≡ bodySize lent ns
+    unfolding bodySize
+    goes z e = then-goes (itemsSize lent ns) (λ m. judged (over (tableEnd (length ns) + m) maxRecord 3 ∷ []) (done (tableEnd (length ns) + m))) n z found e
+
+    pub size-over : maxRecord < n → refused 3 ≡ bodySize lent ns
+    size-over l = let k : maxRecord < tableEnd (length ns) + n = omega arith in goes (refused 3) (search rules)
+
+    pub size-limit : maxRecord < 2 + 2 * length ns + n → refused 3 ≡ bodySize lent ns
+    size-limit l = goes (refused 3) (search rules)
+
+    pub size-found : 2 + 2 * length ns + n ≤ maxRecord → done (2 + 2 * length ns + n) ≡ bodySize lent ns
+    size-found l = goes (done (2 + 2 * length ns + n)) (search rules)
+
+    module _ (l : n ≤ maxRecord) where
+      few : length ns ≤ maxRecord
+      few = omega (arith, sized lent ns n found .many)
+
+      pub size-twice : Fits w64 (2 * length ns)
+      size-twice = record { fits = omega (arith, few) }
+
+      pub size-table : Fits w64 (2 + 2 * length ns)
+      size-table = record { fits = omega (arith, few) }
+
+      pub size-fits : Fits w64 (2 + 2 * length ns + n)
+      size-fits = record { fits = omega (arith, few) }
+
+pub ruleset size-laws = (size-refused, size-over, size-limit, size-found, size-twice, size-table, size-fits)
+
+-- ---- what a body's size says
+pub record BodySized (lent : ℕ) (ns : List ℕ) (size : ℕ) : Type 0 where
+  pub is : size ≡ tableEnd (length ns) + total ns
+  pub small : size ≤ maxRecord
+  pub inside : total ns ≤ lent
+
+pub body-sized : (lent : ℕ) (ns : List ℕ) (size : ℕ) → bodySize lent ns ≡ done size → BodySized lent ns size
+unfolding bodySize
+body-sized lent ns size h =
+    let t : Went (itemsSize lent ns) (λ n. judged (over (tableEnd (length ns) + n) maxRecord 3 ∷ []) (done (tableEnd (length ns) + n))) size = then-were (itemsSize lent ns) _ size h in
+    let n : ℕ = t .found in
+    let r : Sized lent ns n = sized lent ns n (t .is) in
+    let w = all-were (over (tableEnd (length ns) + n) maxRecord 3 ∷ []) (done (tableEnd (length ns) + n)) size (t .then) in
+    let l : tableEnd (length ns) + n ≤ maxRecord = w .0 .0 in
+    let d : done (tableEnd (length ns) + n) ≡ done size = w .1 in
+    let e : tableEnd (length ns) + n ≡ size = cc in
+    record { is = omega (arith, e, r .sum); small = omega (arith, e, l); inside = omega (arith, r .sum, r .inside) }
+
+-- ---- the loop that stores offsets
+module _ (ns old : List ℕ) where
+  pub record Placing (out : List ℕ) (at i : ℕ) : Type 0 where
+    pub most : i ≤ length ns
+    pub sum : at + total (drop i ns) ≡ tableEnd (length ns) + total ns
+    pub rest : sets out (2 + 2 * i) (joined twoBytes (starts at (drop i ns))) ≡ sets old 2 (joined twoBytes (starts (tableEnd (length ns)) ns))
+    pub same : length out ≡ length old
+
+  pub placing-first : Placing old (2 + 2 * length ns) 0
+  placing-first = record { most = omega arith; sum = refl; rest = refl; same = refl }
+
+  module _ (out : List ℕ) (at i : ℕ) (m : Placing out at i) (small : tableEnd (length ns) + total ns ≤ maxRecord) where
+    pub placing-place : Fits w16 at
+    placing-place = record { fits = omega (arith, m .sum) }
+
+    pub placing-ends : length ns ≤ i → out ≡ sets old 2 (joined twoBytes (starts (tableEnd (length ns)) ns))
+    placing-ends h = ap (λ (l : List ℕ). sets out (2 + 2 * i) (joined twoBytes (starts at l))) (sym (drop-of-length-le ns h)) ∙ m .rest
+
+    module _ (n : ℕ) (is : n ≡ getD ns i 0) (h : i < length ns) where
+      left : at + (n + total (drop (i + 1) ns)) ≡ tableEnd (length ns) + total ns
+      left = ap (λ (l : List ℕ). at + total l) (sym (next ns i n is h)) ∙ m .sum
+
+      pub placing-sum : Fits w64 (at + n)
+      placing-sum = record { fits = omega (arith, left) }
+
+      pub placing-more : (new : List ℕ) → new ≡ sets out (2 + 2 * i) (lowFirst 2 at) → Placing new (at + n) (i + 1)
+      placing-more new e =
+          let t : List ℕ = joined twoBytes (starts (at + n) (drop (i + 1) ns)) in
+          let p : 2 + 2 * (i + 1) ≡ 2 + 2 * i + length (lowFirst 2 at) = omega (arith, low-length 2 at) in
+          record {
+            most = omega arith;
+            sum = omega (arith, left);
+            rest =
+                ap (λ (l : List ℕ). sets l (2 + 2 * (i + 1)) t) e
+                ∙ ap (λ (k : ℕ). sets (sets out (2 + 2 * i) (lowFirst 2 at)) k t) p
+                ∙ sets-append out (lowFirst 2 at) t (2 + 2 * i)
+                ∙ ap (λ (l : List ℕ). sets out (2 + 2 * i) (joined twoBytes (starts at l))) (sym (next ns i n is h))
+                ∙ m .rest;
+            same = ap length e ∙ length-sets out (2 + 2 * i) (lowFirst 2 at) ∙ m .same;
+          }
+
+pub ruleset placing-laws = (placing-first, placing-place, placing-ends, placing-sum, placing-more)
+
+-- ---- the writer's own ends
+module _ (s ns : List ℕ) (w : Wrote) (is : paperSize w ≡ bodySize (length s) ns) (size : ℕ) (h : w ≡ Size size) where
+  whole : BodySized (length s) ns size
+  whole = body-sized (length s) ns size (sym is ∙ ap paperSize h)
+
+  pub body-small : tableEnd (length ns) + total ns ≤ maxRecord
+  body-small = omega (arith, whole .is, whole .small)
+
+  pub body-count : Fits w16 (length ns)
+  body-count = record { fits = omega (arith, body-small) }
+
+  pub body-twice : Fits w64 (2 * length ns)
+  body-twice = record { fits = omega (arith, body-small) }
+
+  pub body-first : Fits w64 (2 + 2 * length ns)
+  body-first = record { fits = omega (arith, body-small) }
+
+  pub body-under : 2 + 2 * length ns ≤ size
+  body-under = omega (arith, whole .is)
+
+  pub body-length : size ≡ length (bodyOf (cut ns s))
+  body-length =
+      let c : map length (cut ns s) ≡ ns = cut-lengths ns s (whole .inside) in
+      omega (arith, whole .is, length-body (cut ns s), cut-length ns s, length-flat (cut ns s), ap total c)
+
+  pub body-put : (old a b c p : List ℕ) → a ≡ sets old 0 (lowFirst 2 (length ns)) → b ≡ sets a 2 (joined twoBytes (starts (tableEnd (length ns)) ns))
+      → p ≡ part s 0 (size - (2 + 2 * length ns)) → c ≡ sets b (2 + 2 * length ns) p → c ≡ sets old 0 (bodyOf (cut ns s))
+  unfolding bodyOf
+  body-put old a b c p e f g q =
+      let n : ℕ = length ns in
+      let t : List ℕ = joined twoBytes (starts (tableEnd n) ns) in
+      let k : size - (2 + 2 * n) ≡ total ns = omega (arith, whole .is) in
+      let items : p ≡ flat (cut ns s) = g ∙ ap (λ (j : ℕ). take j s) k ∙ sym (cut-flat ns s) in
+      let two : b ≡ sets old 0 (lowFirst 2 n ++ t) = f ∙ ap (λ (l : List ℕ). sets l 2 t) e ∙ sets-append old (lowFirst 2 n) t 0 in
+      let l : 2 + 2 * n ≡ 0 + length (lowFirst 2 n ++ t) = omega (arith, length-two (n ∷ starts (tableEnd n) ns), length-starts (tableEnd n) ns) in
+      q
+      ∙ ap (λ (d : List ℕ). sets b (2 + 2 * n) d) items
+      ∙ ap (λ (d : List ℕ). sets d (2 + 2 * n) (flat (cut ns s))) two
+      ∙ ap (λ (j : ℕ). sets (sets old 0 (lowFirst 2 n ++ t)) j (flat (cut ns s))) l
+      ∙ sets-append old (lowFirst 2 n ++ t) (flat (cut ns s)) 0
+      ∙ rw (cut-length ns s, cut-lengths ns s (whole .inside))
+
+pub ruleset body-laws = (body-small, body-count, body-twice, body-first, body-under, body-length, body-put)
