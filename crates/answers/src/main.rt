@@ -7,6 +7,7 @@ mod requests; // requests.rt: operations 10 to 15
 mod request_reads; // request_reads.rt: operations 18 to 1B
 mod reply_reads; // reply_reads.rt: operations 20 to 22 and 26
 mod reply_writes; // reply_writes.rt: operations 23 to 25 and 27
+mod bodies; // bodies.rt: operations 30 to 34
 
 use fields::MAX_ROOM;
 use lines::Case;
@@ -49,6 +50,9 @@ fn ask(case: &[u8], lent: &mut [u8], reply: &mut [u8]) -> usize {
     }
     if op < 0x28 {
         return reply_writes::ask(op, case, lent, reply);
+    }
+    if 0x30 <= op && op < 0x35 {
+        return bodies::ask(op, case, lent, reply);
     }
     0
 }

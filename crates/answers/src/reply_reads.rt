@@ -42,8 +42,9 @@ fn header(m: MessageReply, answer: &mut [u8]) -> usize {
     HEAD + 8
 }
 
-fn read_header(s: &[u8], answer: &mut [u8]) -> usize {
-    match reply::read_reply_header(s) {
+// What a reply's header, or that of an item of a body, was answered with.
+pub(crate) fn said_header(r: ReplyRead, answer: &mut [u8]) -> usize {
+    match r {
         ReplyRead::Found(m) => header(m, answer),
         ReplyRead::Refused(e) => said::refused(e, answer),
     }
@@ -178,7 +179,7 @@ pub(crate) fn ask(op: u8, case: &[u8], answer: &mut [u8]) -> usize {
     }
     let s = fields::bytes(case, input);
     if op == 0x20 {
-        return read_header(s, answer);
+        return said_header(reply::read_reply_header(s), answer);
     }
     read_envelope(s, answer)
 }
