@@ -82,6 +82,19 @@ use Rattle.reply.proofs.read_forward_close_reply
 use Rattle.reply.proofs.Exact as Reply
 use Rattle.envelope.proofs.read_envelope
 use Rattle.envelope.proofs.Exact as Envelope
+use Rattle.body_encode.proofs.body_size
+use Rattle.body_encode.proofs.write_body
+use Rattle.body_encode.proofs.Exact as BodyEncode
+use Rattle.body_read.proofs.read_body
+use Rattle.body_read.proofs.Exact as BodyRead
+use Rattle.body_items.proofs.walk_item
+use Rattle.body_items.proofs.body_item
+use Rattle.body_items.proofs.Exact as BodyItems
+use Rattle.body_replies.proofs.walk_reply
+use Rattle.body_replies.proofs.reply_item
+use Rattle.body_replies.proofs.Exact as BodyReplies
+use Rattle.body.proofs.join_bodies
+use Rattle.body.proofs.Exact as Body
 
 pub record Claims : Type 2 where
   -- wire
@@ -163,6 +176,19 @@ pub record Claims : Type 2 where
   pub read-forward-close-reply : Exact read_forward_close_reply.ended (λ _. read_forward_close_reply.clauses)
   -- envelope
   pub read-envelope : Exact read_envelope.ended (λ _. read_envelope.clauses)
+  -- body_encode
+  pub body-size : Exact body_size.ended (λ _. body_size.clauses)
+  pub write-body : Exact write_body.ended (λ _. write_body.clauses)
+  -- body_read
+  pub read-body : Exact read_body.ended (λ _. read_body.clauses)
+  -- body_items
+  pub walk-item : Exact walk_item.ended (λ _. walk_item.clauses)
+  pub body-item : Exact body_item.ended (λ _. body_item.clauses)
+  -- body_replies
+  pub walk-reply : Exact walk_reply.ended (λ _. walk_reply.clauses)
+  pub reply-item : Exact reply_item.ended (λ _. reply_item.clauses)
+  -- body
+  pub join-bodies : Exact join_bodies.ended (λ _. join_bodies.clauses)
 
 pub claims : Claims
 claims =
@@ -222,4 +248,12 @@ claims =
       read-forward-open-reply = Reply.read-forward-open-reply-exact;
       read-forward-close-reply = Reply.read-forward-close-reply-exact;
       read-envelope = Envelope.read-envelope-exact;
+      body-size = BodyEncode.body-size-exact;
+      write-body = BodyEncode.write-body-exact;
+      read-body = BodyRead.read-body-exact;
+      walk-item = BodyItems.walk-item-exact;
+      body-item = BodyItems.body-item-exact;
+      walk-reply = BodyReplies.walk-reply-exact;
+      reply-item = BodyReplies.reply-item-exact;
+      join-bodies = Body.join-bodies-exact;
     }
