@@ -6,8 +6,11 @@ use native.Mathlib.Omega.{arith}
 use lib.ListN.{length, take, drop, length-append, length-drop}
 use lib.Seq.{length-take-le, take-add}
 use Rattle.wire.specs.Folds.{joined}
+use Rattle.wire.specs.Answers.{done, over}
+use Rattle.wire.proofs.Rules.{all-keep, all-were}
 use Rattle.wire.proofs.Numbers.{low-length}
-use Rattle.body_encode.specs.Bodies.{tableEnd, starts, twoBytes, flat, bodyOf, cut, total}
+use Rattle.connection.specs.Limits.{maxRecord}
+use Rattle.body_encode.specs.Bodies.{tableEnd, starts, twoBytes, flat, bodyOf, cut, total, limited}
 
 pub length-two : (vs : List ℕ) → length (joined twoBytes vs) ≡ 2 * length vs
 length-two [] = refl
@@ -36,6 +39,17 @@ unfolding bodyOf
 length-body xs =
     length-append (joined twoBytes (length xs ∷ starts (tableEnd (length xs)) (map length xs))) (flat xs)
     ∙ ap (λ (k : ℕ). k + length (flat xs)) (length-table xs)
+
+-- ---- the limit
+
+pub limited-is : (n : ℕ) → n ≤ maxRecord → limited n ≡ done n
+limited-is n h = all-keep (over n maxRecord 3 ∷ []) (done n) (h, tt)
+
+pub limited-was : (n size : ℕ) → limited n ≡ done size → (n ≤ maxRecord) × (n ≡ size)
+limited-was n size h =
+    let w = all-were (over n maxRecord 3 ∷ []) (done n) size h in
+    let d : done n ≡ done size = w .1 in
+    (w .0 .0, cc)
 
 -- ---- items that were lent end to end
 

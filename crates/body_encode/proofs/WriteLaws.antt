@@ -21,8 +21,8 @@ use Rattle.wire.proofs.Answers.{Parts, plus-parts, plus-none, plus-assoc}
 use Rattle.wire.proofs.Numbers.{low-length}
 use Rattle.wire.proofs.Stores.{sets-append}
 use Rattle.connection.specs.Limits.{maxRecord}
-use Rattle.body_encode.specs.Bodies.{tableEnd, starts, twoBytes, flat, bodyOf, cut, total, itemsSize, bodySize}
-use Rattle.body_encode.proofs.BodyLaws.{length-two, length-starts, length-body, length-flat, cut-length, cut-flat, cut-lengths}
+use Rattle.body_encode.specs.Bodies.{tableEnd, starts, twoBytes, flat, bodyOf, cut, total, itemsSize, limited, bodySize}
+use Rattle.body_encode.proofs.BodyLaws.{length-two, length-starts, length-body, length-flat, limited-was, cut-length, cut-flat, cut-lengths}
 
 -- the list from i on is what stands at i, and the list from i + 1 on
 next : (ns : List ℕ) (i n : ℕ) → n ≡ getD ns i 0 → i < length ns → drop i ns ≡ n ∷ drop (i + 1) ns
@@ -106,15 +106,15 @@ module _ (lent : ℕ) (ns : List ℕ) (w : Wrote) (is : paperSize w ≡ itemsSiz
   pub size-refused : (e : Refusal) → w ≡ Refused e → refused (number e) ≡ bodySize lent ns
   unfolding bodySize
   size-refused e h =
-      then-stops (itemsSize lent ns) (λ n. judged (over (tableEnd (length ns) + n) maxRecord 3 ∷ []) (done (tableEnd (length ns) + n))) (number e) (sym is ∙ ap paperSize h)
+      then-stops (itemsSize lent ns) (λ n. limited (tableEnd (length ns) + n)) (number e) (sym is ∙ ap paperSize h)
 
   module _ (n : ℕ) (h : w ≡ Size n) where
     found : itemsSize lent ns ≡ done n
     found = sym is ∙ ap paperSize h
 
-    goes : (z : Answer ℕ) → z ≡ judged (over (tableEnd (length ns) + n) maxRecord 3 ∷ []) (done (tableEnd (length ns) + n)) → z ≡ bodySize lent ns
+    goes : (z : Answer ℕ) → z ≡ limited (tableEnd (length ns) + n) → z ≡ bodySize lent ns
     unfolding bodySize
-    goes z e = then-goes (itemsSize lent ns) (λ m. judged (over (tableEnd (length ns) + m) maxRecord 3 ∷ []) (done (tableEnd (length ns) + m))) n z found e
+    goes z e = then-goes (itemsSize lent ns) (λ m. limited (tableEnd (length ns) + m)) n z found e
 
     pub size-over : maxRecord < n → refused 3 ≡ bodySize lent ns
     size-over l = let k : maxRecord < tableEnd (length ns) + n = omega arith in goes (refused 3) (search rules)
@@ -149,13 +149,12 @@ pub record BodySized (lent : ℕ) (ns : List ℕ) (size : ℕ) : Type 0 where
 pub body-sized : (lent : ℕ) (ns : List ℕ) (size : ℕ) → bodySize lent ns ≡ done size → BodySized lent ns size
 unfolding bodySize
 body-sized lent ns size h =
-    let t : Went (itemsSize lent ns) (λ n. judged (over (tableEnd (length ns) + n) maxRecord 3 ∷ []) (done (tableEnd (length ns) + n))) size = then-were (itemsSize lent ns) _ size h in
+    let t : Went (itemsSize lent ns) (λ n. limited (tableEnd (length ns) + n)) size = then-were (itemsSize lent ns) _ size h in
     let n : ℕ = t .found in
     let r : Sized lent ns n = sized lent ns n (t .is) in
-    let w = all-were (over (tableEnd (length ns) + n) maxRecord 3 ∷ []) (done (tableEnd (length ns) + n)) size (t .then) in
-    let l : tableEnd (length ns) + n ≤ maxRecord = w .0 .0 in
-    let d : done (tableEnd (length ns) + n) ≡ done size = w .1 in
-    let e : tableEnd (length ns) + n ≡ size = cc in
+    let w = limited-was (tableEnd (length ns) + n) size (t .then) in
+    let l : tableEnd (length ns) + n ≤ maxRecord = w .0 in
+    let e : tableEnd (length ns) + n ≡ size = w .1 in
     record { is = omega (arith, e, r .sum); small = omega (arith, e, l); inside = omega (arith, r .sum, r .inside) }
 
 -- ---- the loop that stores offsets

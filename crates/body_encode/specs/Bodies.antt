@@ -47,6 +47,10 @@ unfoldable pub itemsSize : ℕ → List ℕ → Answer ℕ
 itemsSize lent [] = done 0
 itemsSize lent (n ∷ ns) = judged (over n lent 11 ∷ under n 1 7 ∷ []) (plus (done n) (itemsSize (lent - n) ns))
 
+-- a body of so many bytes: 3 past the limit
+abbrev pub limited : ℕ → Answer ℕ
+limited n = judged (over n maxRecord 3 ∷ []) (done n)
+
 -- how many bytes their body has
 unfoldable pub bodySize : ℕ → List ℕ → Answer ℕ
-bodySize lent ns = andThen (itemsSize lent ns) (λ n. judged (over (tableEnd (length ns) + n) maxRecord 3 ∷ []) (done (tableEnd (length ns) + n)))
+bodySize lent ns = andThen (itemsSize lent ns) (λ n. limited (tableEnd (length ns) + n))

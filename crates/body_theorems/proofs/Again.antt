@@ -10,9 +10,8 @@ use Rattle.wire.specs.Folds.{joined}
 use Rattle.wire.specs.Answers.{done, under, over, plus}
 use Rattle.wire.proofs.Rules.{all-keep}
 use Rattle.wire.proofs.Numbers.{low-value, bytes-drop}
-use Rattle.connection.specs.Limits.{maxRecord}
 use Rattle.body_encode.specs.Bodies.{tableEnd, starts, twoBytes, flat, bodyOf, cut, total, itemsSize, bodySize}
-use Rattle.body_encode.proofs.BodyLaws.{length-lengths, length-flat}
+use Rattle.body_encode.proofs.BodyLaws.{length-lengths, length-flat, limited-is}
 use Rattle.body_read.specs.Reads.{offsetAt, readBody}
 use Rattle.body_read.proofs.Accepts.{Accepted, accepted}
 use Rattle.body_items.specs.Items.{itemsFrom, itemsOf}
@@ -95,7 +94,7 @@ write-what-was-read s n b h =
     record {
       size =
           rw z
-          (all-keep (over (tableEnd (length (map length (itemsOf s))) + total (map length (itemsOf s))) maxRecord 3 ∷ []) (done (tableEnd (length (map length (itemsOf s))) + total (map length (itemsOf s)))) (omega (arith, whole, a .small), tt)
+          (limited-is (tableEnd (length (map length (itemsOf s))) + total (map length (itemsOf s))) (omega (arith, whole, a .small))
           ∙ ap done whole);
       bytes = ap (λ (f : List ℕ). bodyOf (cut (map length (itemsOf s)) f)) (sym d) ∙ ap bodyOf (cut-again (itemsOf s)) ∙ written-of-read s n b h;
     }
