@@ -12,7 +12,7 @@ use Rattle.body_items.specs.Items.{bodyItem, itemsOf}
 use Rattle.body_replies.specs.Replies.{bodyReply}
 use Rattle.body.specs.Joins.{joinOf, joinSize}
 use Rattle.body_theorems.proofs.Joins.{join}
-use Rattle.body_theorems.proofs.Replies.{says}
+use Rattle.body_theorems.proofs.Replies.{tells}
 
 -- an item with two words of extended status before one that is read
 abbrev pub twoWords : List ℕ
@@ -22,7 +22,7 @@ pub card-two-words-first : bodyReply twoWords 0 ≡ refused 6
 unfolding bodyItem readBody readHeader judged breaks numberOf valueOf
 card-two-words-first = refl
 
-pub card-two-words-second : says twoWords (bodyReply twoWords 1)
+pub card-two-words-second : tells twoWords (bodyReply twoWords 1)
     ≡ done (record { service = 0x8E; status = record { general = 0; extended = Absent }; bytes = 0 ∷ 0 ∷ 0x48 ∷ 0x42 ∷ [] })
 unfolding bodyItem readBody readHeader judged breaks numberOf valueOf
 card-two-words-second = refl

@@ -24,16 +24,16 @@ use Rattle.body_replies.specs.Replies.{shifted, replyIn, bodyReply, walkReply}
 use Rattle.body_theorems.proofs.Written.{Filled, Handed, item-of-written}
 
 -- what a reply says, wherever it lies: service, status, and the bytes of its data
-pub record Said : Type 0 where
+pub record Told : Type 0 where
   pub service : ℕ
   pub status : Status
   pub bytes : List ℕ
 
-abbrev pub saidIn : List ℕ → MessageReply → Said
-saidIn s m = record { service = m .«reply_service»; status = m .status; bytes = part s (m .«data_start») (m .«data_len») }
+abbrev pub toldIn : List ℕ → MessageReply → Told
+toldIn s m = record { service = m .«reply_service»; status = m .status; bytes = part s (m .«data_start») (m .«data_len») }
 
-abbrev pub says : List ℕ → Answer MessageReply → Answer Said
-says s x = andThen x (λ m. done (saidIn s m))
+abbrev pub tells : List ℕ → Answer MessageReply → Answer Told
+tells s x = andThen x (λ m. done (toldIn s m))
 
 -- ---- a part of a part
 drop-take : (b n : ℕ) (l : List ℕ) → drop b (take n l) ≡ take (n - b) (drop b l)
@@ -50,7 +50,7 @@ part-part s a n b c h =
 
 -- ---- in an item, a reply says what its bytes alone say
 in-item : (s : List ℕ) (i : Item) (x : Answer MessageReply) → x ≡ readHeader (bytesIn s i) → i .start + i .len ≤ length s
-    → andThen (andThen x (λ m. done (shifted (i .start) m))) (λ m. done (saidIn s m)) ≡ andThen x (λ m. done (saidIn (bytesIn s i) m))
+    → andThen (andThen x (λ m. done (shifted (i .start) m))) (λ m. done (toldIn s m)) ≡ andThen x (λ m. done (toldIn (bytesIn s i) m))
 in-item s i (refused k) e l = refl
 in-item s i (done m) e l =
     let r : Rest (bytesIn s i) m = header-rest (bytesIn s i) m (sym e) in
@@ -67,22 +67,22 @@ inside s k i h =
     rw (← w .is) (omega (arith, p .some, p .ends))
 
 -- the reply at k is the header of item k's bytes
-pub reply-is-header : (s : List ℕ) (k : ℕ) (i : Item) → bodyItem s k ≡ done i → says s (bodyReply s k) ≡ says (bytesIn s i) (readHeader (bytesIn s i))
+pub reply-is-header : (s : List ℕ) (k : ℕ) (i : Item) → bodyItem s k ≡ done i → tells s (bodyReply s k) ≡ tells (bytesIn s i) (readHeader (bytesIn s i))
 reply-is-header s k i h =
-    ap (says s) (then-done (bodyItem s k) (replyIn s) i h) ∙ in-item s i (readHeader (bytesIn s i)) refl (inside s k i h)
+    ap (tells s) (then-done (bodyItem s k) (replyIn s) i h) ∙ in-item s i (readHeader (bytesIn s i)) refl (inside s k i h)
 
 -- two bodies that agree on an item agree on what its reply says, whatever else they hold and wherever the item stands
 pub reply-alone : (s t : List ℕ) (k l : ℕ) (i j : Item) → bodyItem s k ≡ done i → bodyItem t l ≡ done j → bytesIn s i ≡ bytesIn t j
-    → says s (bodyReply s k) ≡ says t (bodyReply t l)
+    → tells s (bodyReply s k) ≡ tells t (bodyReply t l)
 reply-alone s t k l i j p q e =
-    reply-is-header s k i p ∙ ap (λ (b : List ℕ). says b (readHeader b)) e ∙ sym (reply-is-header t l j q)
+    reply-is-header s k i p ∙ ap (λ (b : List ℕ). tells b (readHeader b)) e ∙ sym (reply-is-header t l j q)
 
 -- of items that were written, each is read alone: its own header, whatever the others hold
 pub reply-of-written : (xs : List (List ℕ)) (k : ℕ) → Filled xs → length (bodyOf xs) ≤ maxRecord → k < length xs
-    → says (bodyOf xs) (bodyReply (bodyOf xs) k) ≡ says (getD xs k []) (readHeader (getD xs k []))
+    → tells (bodyOf xs) (bodyReply (bodyOf xs) k) ≡ tells (getD xs k []) (readHeader (getD xs k []))
 reply-of-written xs k full small l =
     let w : Handed (bodyOf xs) k (getD xs k []) = item-of-written xs k full small l in
-    reply-is-header (bodyOf xs) k (w .item) (w .found) ∙ ap (λ (b : List ℕ). says b (readHeader b)) (w .is)
+    reply-is-header (bodyOf xs) k (w .item) (w .found) ∙ ap (λ (b : List ℕ). tells b (readHeader b)) (w .is)
 
 -- ---- a walk: with the count that the reader gave, an item and a reply are those by index
 pub walk-is-item : (s : List ℕ) (n k : ℕ) → readBody s ≡ done n → walkItem s n k ≡ bodyItem s k
