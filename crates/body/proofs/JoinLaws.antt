@@ -1,9 +1,9 @@
 -- Each end of a join, a turn of its loop, and what its stores come to, as laws with plain conditions. Assumes nothing.
 use Prim.Native.Nat.{ℕ, zero, suc, _+_, _*_, _-_, _≤_, _<_}
 use mathlib.Core.Path.{_≡_, refl, sym, ap, _∙_}
-use mathlib.Core.List.{List, [], _∷_, _++_, map, map-append, append-assoc}
+use mathlib.Core.List.{List, _∷_, _++_, map, map-append, append-assoc}
 use native.Mathlib.Omega.{arith}
-use lib.ListN.{length, drop, length-append, length-drop}
+use lib.ListN.{length, drop, length-append, length-drop, length-map}
 use lib.Seq.{sets, length-sets}
 use mir.Val.{Fits}
 use mir.Syntax.{w16, w64}
@@ -19,7 +19,7 @@ use Rattle.wire.specs.declared.Wrote.{Wrote}
 use Rattle.wire.specs.declared.Wrote.the-variants.{Size}
 use Rattle.wire.proofs.Rules.{rules, then-stops, then-goes, Went, then-were}
 use Rattle.wire.proofs.Numbers.{low-length}
-use Rattle.wire.proofs.Stores.{sets-append, part-last}
+use Rattle.wire.proofs.Stores.{sets-onto, part-last}
 use Rattle.wire.proofs.Folds.{joined-append}
 use Rattle.connection.specs.Limits.{maxRecord}
 use Rattle.body_encode.specs.Bodies.{tableEnd, starts, twoBytes, flat, bodyOf, total, limited}
@@ -135,12 +135,6 @@ module _ (s : List ℕ) (n by : ℕ) (old : List ℕ) (at : ℕ) where
         ap (λ (k : ℕ). sets out (at + 2 * i) (joined twoBytes (raised by (offsetsFrom k s i)))) e ∙ m .rest
 
     module _ (u : Raisable s n by at) (h : i < n) where
-      pub raising-read : Fits w64 (2 + 2 * i)
-      raising-read = record { fits = omega (arith, u .few) }
-
-      pub raising-place : Fits w64 (at + 2 * i)
-      raising-place = record { fits = omega (arith, u .few, u .near) }
-
       module _ (v : ℕ) (is : v ≡ valueOf 2 (drop (2 + 2 * i) s)) where
         sum : v + by ≤ maxRecord
         sum = omega (arith, is, u .each i h)
@@ -161,34 +155,22 @@ module _ (s : List ℕ) (n by : ℕ) (old : List ℕ) (at : ℕ) where
             record {
               most = omega arith;
               rest =
-                  ap (λ (d : List ℕ). sets d (at + 2 * (i + 1)) t) e
-                  ∙ ap (λ (k : ℕ). sets (sets out (at + 2 * i) (lowFirst 2 (v + by))) k t) p
-                  ∙ sets-append out (lowFirst 2 (v + by)) t (at + 2 * i)
+                  sets-onto out new (sets new (at + 2 * (i + 1)) t) (lowFirst 2 (v + by)) t (at + 2 * i) (at + 2 * (i + 1)) e p refl
                   ∙ ap (λ (d : List ℕ). sets out (at + 2 * i) d) j
                   ∙ m .rest;
               same = ap length e ∙ length-sets out (at + 2 * i) (lowFirst 2 (v + by)) ∙ m .same;
             }
 
-pub ruleset raising-laws = (raising-first, raising-ends, raising-read, raising-place, raising-sum, raising-two, raising-more)
+pub ruleset raising-laws = (raising-first, raising-ends, raising-sum, raising-two, raising-more)
 
 -- ---- the stores of a join
-length-raised : (by : ℕ) (vs : List ℕ) → length (raised by vs) ≡ length vs
-length-raised by [] = refl
-length-raised by (v ∷ vs) = ap suc (length-raised by vs)
-
 length-offsets : (m : ℕ) (s : List ℕ) (k : ℕ) → length (offsetsFrom m s k) ≡ m
 length-offsets zero s k = refl
 length-offsets (suc m) s k = ap suc (length-offsets m s (k + 1))
 
 length-moved : (m : ℕ) (s : List ℕ) (by : ℕ) → length (joined twoBytes (raised by (offsetsFrom m s 0))) ≡ 2 * m
 length-moved m s by =
-    length-two (raised by (offsetsFrom m s 0)) ∙ ap (λ (k : ℕ). 2 * k) (length-raised by (offsetsFrom m s 0) ∙ length-offsets m s 0)
-
--- one store behind those before it
-onto : (old x y front more : List ℕ) (at : ℕ) → x ≡ sets old 0 front → at ≡ length front → y ≡ sets x at more → y ≡ sets old 0 (front ++ more)
-onto old x y front more at e l f =
-    let z : at ≡ 0 + length front = omega arith in
-    f ∙ ap (λ (d : List ℕ). sets d at more) e ∙ ap (λ (k : ℕ). sets (sets old 0 front) k more) z ∙ sets-append old front more 0
+    length-two (raised by (offsetsFrom m s 0)) ∙ ap (λ (k : ℕ). 2 * k) (length-map (offsetsFrom m s 0) (λ (v : ℕ). v + by) ∙ length-offsets m s 0)
 
 module _ (a b : List ℕ) (u : Joinable a b) where
   one : Accepted a (countAt a)
@@ -232,8 +214,8 @@ module _ (a b : List ℕ) (u : Joinable a b) where
       ∙ omega (
         arith,
         length-append moved after,
-        length-raised (2 * countAt b) (offsetsFrom (countAt a) a 0),
-        length-raised (length a - 2) (offsetsFrom (countAt b) b 0),
+        length-map (offsetsFrom (countAt a) a 0) (λ (v : ℕ). v + 2 * countAt b),
+        length-map (offsetsFrom (countAt b) b 0) (λ (v : ℕ). v + (length a - 2)),
         length-offsets (countAt a) a 0,
         length-offsets (countAt b) b 0,
       )
@@ -253,32 +235,8 @@ module _ (a b : List ℕ) (u : Joinable a b) where
     pub join-two : Fits w16 (m + n)
     join-two = record { fits = omega (arith, near .0) }
 
-    pub join-counts : Fits w64 (m + n)
-    join-counts = record { fits = omega (arith, near .0) }
-
-    pub join-twice : Fits w64 (2 * n)
-    join-twice = record { fits = omega (arith, near .0) }
-
     pub join-some : 2 ≤ length a
     join-some = omega (arith, near .1)
-
-    pub join-past : Fits w64 (2 * m)
-    join-past = record { fits = omega (arith, near .0) }
-
-    pub join-behind-first : Fits w64 (2 + 2 * m)
-    join-behind-first = record { fits = omega (arith, near .0) }
-
-    pub join-behind-second : Fits w64 (2 + 2 * n)
-    join-behind-second = record { fits = omega (arith, near .0) }
-
-    pub join-all : Fits w64 (2 * (m + n))
-    join-all = record { fits = omega (arith, near .0) }
-
-    pub join-behind : Fits w64 (2 + 2 * (m + n))
-    join-behind = record { fits = omega (arith, near .0) }
-
-    pub join-last : Fits w64 (2 * n + length a)
-    join-last = record { fits = omega (arith, near .0, one .small) }
 
     pub join-first : Raisable a m (2 * n) 2
     join-first = record {
@@ -302,8 +260,8 @@ module _ (a b : List ℕ) (u : Joinable a b) where
         let t2 : List ℕ = raised (length a - 2) (offsetsFrom n b 0) in
         let l1 : length c ≡ 2 = low-length 2 (m + n) in
         let l2 : length (c ++ joined twoBytes t1) ≡ 2 + 2 * m = length-append c (joined twoBytes t1) ∙ omega (arith, length-moved m a (2 * n)) in
-        let s2 : o2 ≡ sets old 0 (c ++ joined twoBytes t1) = onto old o1 o2 c (joined twoBytes t1) 2 e1 (sym l1) e2 in
-        let s3 : o3 ≡ sets old 0 ((c ++ joined twoBytes t1) ++ joined twoBytes t2) = onto old o2 o3 (c ++ joined twoBytes t1) (joined twoBytes t2) (2 + 2 * m) s2 (sym l2) e3 in
+        let s2 : o2 ≡ sets old 0 (c ++ joined twoBytes t1) = sets-onto old o1 o2 c (joined twoBytes t1) 0 2 e1 (omega (arith, l1)) e2 in
+        let s3 : o3 ≡ sets old 0 ((c ++ joined twoBytes t1) ++ joined twoBytes t2) = sets-onto old o2 o3 (c ++ joined twoBytes t1) (joined twoBytes t2) 0 (2 + 2 * m) s2 (omega (arith, l2)) e3 in
         let j : (c ++ joined twoBytes t1) ++ joined twoBytes t2 ≡ joined twoBytes ((m + n) ∷ (t1 ++ t2))
         = append-assoc c (joined twoBytes t1) (joined twoBytes t2) ∙ ap (λ (l : List ℕ). c ++ l) (sym (joined-append twoBytes t1 t2)) in
         s3 ∙ ap (λ (l : List ℕ). sets old 0 l) j ∙ rw (first, second) refl
@@ -319,22 +277,14 @@ module _ (a b : List ℕ) (u : Joinable a b) where
         let l3 : 2 * n + length a ≡ length (t ++ drop (tableEnd (countAt a)) a)
         = sym (length-append t (drop (tableEnd (countAt a)) a) ∙ omega (arith, first, second, l2, length-drop (tableEnd (countAt a)) a, one .table)) in
         let s2 : o2 ≡ sets old 0 (t ++ drop (tableEnd (countAt a)) a)
-        = onto old o1 o2 t (drop (tableEnd (countAt a)) a) (2 + 2 * (m + n)) e1 l2 (e2 ∙ ap (λ (d : List ℕ). sets o1 (2 + 2 * (m + n)) d) fa) in
+        = sets-onto old o1 o2 t (drop (tableEnd (countAt a)) a) 0 (2 + 2 * (m + n)) e1 (omega (arith, l2)) (e2 ∙ ap (λ (d : List ℕ). sets o1 (2 + 2 * (m + n)) d) fa) in
         let s3 : o3 ≡ sets old 0 ((t ++ drop (tableEnd (countAt a)) a) ++ drop (tableEnd (countAt b)) b)
-        = onto old o2 o3 (t ++ drop (tableEnd (countAt a)) a) (drop (tableEnd (countAt b)) b) (2 * n + length a) s2 l3 (e3 ∙ ap (λ (d : List ℕ). sets o2 (2 * n + length a) d) fb) in
+        = sets-onto old o2 o3 (t ++ drop (tableEnd (countAt a)) a) (drop (tableEnd (countAt b)) b) 0 (2 * n + length a) s2 (omega (arith, l3)) (e3 ∙ ap (λ (d : List ℕ). sets o2 (2 * n + length a) d) fb) in
         s3 ∙ ap (λ (d : List ℕ). sets old 0 d) (sym join-bytes)
 
 pub ruleset put-laws = (
   join-two,
-  join-counts,
-  join-twice,
   join-some,
-  join-past,
-  join-behind-first,
-  join-behind-second,
-  join-all,
-  join-behind,
-  join-last,
   join-first,
   join-second,
   table-put,
@@ -346,7 +296,7 @@ module _ (a b : List ℕ) (w : Wrote) (is : paperSize w ≡ joinSize a b) (size 
   pub join-ready : Joinable a b
   join-ready = join-was a b size (sym is ∙ ap paperSize h) .both
 
-  pub join-is : size ≡ length (joinOf a b)
-  join-is = join-was a b size (sym is ∙ ap paperSize h) .is
+  pub join-sized : size ≡ length (joinOf a b)
+  join-sized = join-was a b size (sym is ∙ ap paperSize h) .is
 
-pub ruleset join-laws = (join-ready, join-is)
+pub ruleset join-laws = (join-ready, join-sized)

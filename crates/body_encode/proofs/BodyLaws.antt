@@ -3,7 +3,7 @@ use Prim.Native.Nat.{ℕ, suc, _+_, _*_, _-_, _≤_}
 use mathlib.Core.Path.{_≡_, refl, sym, ap, _∙_}
 use mathlib.Core.List.{List, [], _∷_, _++_, map}
 use native.Mathlib.Omega.{arith}
-use lib.ListN.{length, take, drop, length-append, length-drop}
+use lib.ListN.{length-map, length, take, drop, length-append, length-drop}
 use lib.Seq.{length-take-le, take-add}
 use Rattle.wire.specs.Folds.{joined}
 use Rattle.wire.specs.Answers.{done, over}
@@ -20,10 +20,6 @@ pub length-starts : (at : ℕ) (ns : List ℕ) → length (starts at ns) ≡ len
 length-starts at [] = refl
 length-starts at (n ∷ ns) = ap suc (length-starts (at + n) ns)
 
-pub length-lengths : (xs : List (List ℕ)) → length (map length xs) ≡ length xs
-length-lengths [] = refl
-length-lengths (x ∷ xs) = ap suc (length-lengths xs)
-
 pub length-flat : (xs : List (List ℕ)) → length (flat xs) ≡ total (map length xs)
 length-flat [] = refl
 length-flat (x ∷ xs) = length-append x (flat xs) ∙ ap (λ (k : ℕ). length x + k) (length-flat xs)
@@ -32,7 +28,7 @@ length-flat (x ∷ xs) = length-append x (flat xs) ∙ ap (λ (k : ℕ). length 
 pub length-table : (xs : List (List ℕ)) → length (joined twoBytes (length xs ∷ starts (tableEnd (length xs)) (map length xs))) ≡ tableEnd (length xs)
 length-table xs =
     length-two (length xs ∷ starts (tableEnd (length xs)) (map length xs))
-    ∙ omega (arith, length-starts (tableEnd (length xs)) (map length xs), length-lengths xs)
+    ∙ omega (arith, length-starts (tableEnd (length xs)) (map length xs), length-map xs length)
 
 pub length-body : (xs : List (List ℕ)) → length (bodyOf xs) ≡ tableEnd (length xs) + length (flat xs)
 unfolding bodyOf

@@ -19,7 +19,7 @@ use Rattle.wire.specs.declared.Wrote.the-variants.{Size, Refused}
 use Rattle.wire.proofs.Rules.{rules, all-keep, all-were, then-stops, then-goes, Went, then-were}
 use Rattle.wire.proofs.Answers.{Parts, plus-parts, plus-none, plus-assoc}
 use Rattle.wire.proofs.Numbers.{low-length}
-use Rattle.wire.proofs.Stores.{sets-append}
+use Rattle.wire.proofs.Stores.{sets-onto}
 use Rattle.connection.specs.Limits.{maxRecord}
 use Rattle.body_encode.specs.Bodies.{tableEnd, starts, twoBytes, flat, bodyOf, cut, total, itemsSize, limited, bodySize}
 use Rattle.body_encode.proofs.BodyLaws.{length-two, length-starts, length-body, length-flat, limited-was, cut-length, cut-flat, cut-lengths}
@@ -129,16 +129,10 @@ module _ (lent : ℕ) (ns : List ℕ) (w : Wrote) (is : paperSize w ≡ itemsSiz
       few : length ns ≤ maxRecord
       few = omega (arith, sized lent ns n found .many)
 
-      pub size-twice : Fits w64 (2 * length ns)
-      size-twice = record { fits = omega (arith, few) }
-
-      pub size-table : Fits w64 (2 + 2 * length ns)
-      size-table = record { fits = omega (arith, few) }
-
       pub size-fits : Fits w64 (2 + 2 * length ns + n)
       size-fits = record { fits = omega (arith, few) }
 
-pub ruleset size-laws = (size-refused, size-over, size-limit, size-found, size-twice, size-table, size-fits)
+pub ruleset size-laws = (size-refused, size-over, size-limit, size-found, size-fits)
 
 -- ---- what a body's size says
 pub record BodySized (lent : ℕ) (ns : List ℕ) (size : ℕ) : Type 0 where
@@ -190,9 +184,7 @@ module _ (ns old : List ℕ) where
             most = omega arith;
             sum = omega (arith, left);
             rest =
-                ap (λ (l : List ℕ). sets l (2 + 2 * (i + 1)) t) e
-                ∙ ap (λ (k : ℕ). sets (sets out (2 + 2 * i) (lowFirst 2 at)) k t) p
-                ∙ sets-append out (lowFirst 2 at) t (2 + 2 * i)
+                sets-onto out new (sets new (2 + 2 * (i + 1)) t) (lowFirst 2 at) t (2 + 2 * i) (2 + 2 * (i + 1)) e p refl
                 ∙ ap (λ (l : List ℕ). sets out (2 + 2 * i) (joined twoBytes (starts at l))) (sym (next ns i n is h))
                 ∙ m .rest;
             same = ap length e ∙ length-sets out (2 + 2 * i) (lowFirst 2 at) ∙ m .same;
@@ -211,12 +203,6 @@ module _ (s ns : List ℕ) (w : Wrote) (is : paperSize w ≡ bodySize (length s)
   pub body-count : Fits w16 (length ns)
   body-count = record { fits = omega (arith, body-small) }
 
-  pub body-twice : Fits w64 (2 * length ns)
-  body-twice = record { fits = omega (arith, body-small) }
-
-  pub body-first : Fits w64 (2 + 2 * length ns)
-  body-first = record { fits = omega (arith, body-small) }
-
   pub body-under : 2 + 2 * length ns ≤ size
   body-under = omega (arith, whole .is)
 
@@ -233,13 +219,9 @@ module _ (s ns : List ℕ) (w : Wrote) (is : paperSize w ≡ bodySize (length s)
       let t : List ℕ = joined twoBytes (starts (tableEnd n) ns) in
       let k : size - (2 + 2 * n) ≡ total ns = omega (arith, whole .is) in
       let items : p ≡ flat (cut ns s) = g ∙ ap (λ (j : ℕ). take j s) k ∙ sym (cut-flat ns s) in
-      let two : b ≡ sets old 0 (lowFirst 2 n ++ t) = f ∙ ap (λ (l : List ℕ). sets l 2 t) e ∙ sets-append old (lowFirst 2 n) t 0 in
-      let l : 2 + 2 * n ≡ 0 + length (lowFirst 2 n ++ t) = omega (arith, length-two (n ∷ starts (tableEnd n) ns), length-starts (tableEnd n) ns) in
-      q
-      ∙ ap (λ (d : List ℕ). sets b (2 + 2 * n) d) items
-      ∙ ap (λ (d : List ℕ). sets d (2 + 2 * n) (flat (cut ns s))) two
-      ∙ ap (λ (j : ℕ). sets (sets old 0 (lowFirst 2 n ++ t)) j (flat (cut ns s))) l
-      ∙ sets-append old (lowFirst 2 n ++ t) (flat (cut ns s)) 0
+      let l : length (lowFirst 2 n ++ t) ≡ 2 + 2 * n = length-two (n ∷ starts (tableEnd n) ns) ∙ omega (arith, length-starts (tableEnd n) ns) in
+      let two : b ≡ sets old 0 (lowFirst 2 n ++ t) = sets-onto old a b (lowFirst 2 n) t 0 2 e (omega (arith, low-length 2 n)) f in
+      sets-onto old b c (lowFirst 2 n ++ t) (flat (cut ns s)) 0 (2 + 2 * n) two (omega (arith, l)) (q ∙ ap (λ (d : List ℕ). sets b (2 + 2 * n) d) items)
       ∙ rw (cut-length ns s, cut-lengths ns s (whole .inside))
 
-pub ruleset body-laws = (body-small, body-count, body-twice, body-first, body-under, body-length, body-put)
+pub ruleset body-laws = (body-small, body-count, body-under, body-length, body-put)

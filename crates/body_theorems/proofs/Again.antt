@@ -3,7 +3,7 @@ use Prim.Native.Nat.{ℕ, zero, suc, _+_, _*_, _-_, _≤_}
 use mathlib.Core.Path.{_≡_, refl, sym, ap, _∙_}
 use mathlib.Core.List.{List, [], _∷_, _++_, map}
 use native.Mathlib.Omega.{arith}
-use lib.ListN.{length, take, drop, length-drop, take-append-drop}
+use lib.ListN.{length, take, drop, length-drop, length-map, take-append-drop}
 use lib.Seq.{drop-drop, take-add, take-append-seam, drop-append-seam}
 use Rattle.wire.specs.Numbers.{Bytes, valueOf, lowFirst}
 use Rattle.wire.specs.Folds.{joined}
@@ -11,7 +11,7 @@ use Rattle.wire.specs.Answers.{done, under, over, plus}
 use Rattle.wire.proofs.Rules.{all-keep}
 use Rattle.wire.proofs.Numbers.{low-value, bytes-drop}
 use Rattle.body_encode.specs.Bodies.{tableEnd, starts, twoBytes, flat, bodyOf, cut, total, itemsSize, bodySize}
-use Rattle.body_encode.proofs.BodyLaws.{length-lengths, length-flat, limited-is}
+use Rattle.body_encode.proofs.BodyLaws.{length-flat, limited-is}
 use Rattle.body_read.specs.Reads.{offsetAt, readBody}
 use Rattle.body_read.proofs.Accepts.{Accepted, accepted}
 use Rattle.body_items.specs.Items.{itemsFrom, itemsOf}
@@ -90,7 +90,7 @@ write-what-was-read s n b h =
     let z : itemsSize (length (drop (tableEnd n) s)) (map length (itemsOf s)) ≡ done (total (map length (itemsOf s)))
     = sizes-again (itemsOf s) (length (drop (tableEnd n) s)) (items-filled s n h) (omega arith) in
     let whole : tableEnd (length (map length (itemsOf s))) + total (map length (itemsOf s)) ≡ length s
-    = omega (arith, length-lengths (itemsOf s), count-items s n a, a .table) in
+    = omega (arith, length-map (itemsOf s) length, count-items s n a, a .table) in
     record {
       size =
           rw z

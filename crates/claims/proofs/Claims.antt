@@ -61,6 +61,7 @@ use Rattle.request_encode.proofs.write_message
 use Rattle.request_encode.proofs.write_unconnected_send
 use Rattle.request_encode.proofs.Exact as RequestEncode
 use Rattle.message_read.proofs.read_message
+use Rattle.message_read.proofs.first_byte
 use Rattle.message_read.proofs.route_at
 use Rattle.message_read.proofs.padded_route_at
 use Rattle.message_read.proofs.Exact as MessageRead
@@ -156,6 +157,7 @@ pub record Claims : Type 2 where
   pub write-unconnected-send : Exact write_unconnected_send.ended (λ _. write_unconnected_send.clauses)
   -- message_read
   pub read-message : Exact read_message.ended (λ _. read_message.clauses)
+  pub first-byte : Exact first_byte.ended (λ _. first_byte.clauses)
   pub route-at : Exact route_at.ended (λ _. route_at.clauses)
   pub padded-route-at : Exact padded_route_at.ended (λ _. padded_route_at.clauses)
   -- forward_read
@@ -234,6 +236,7 @@ claims =
       write-message = RequestEncode.write-message-exact;
       write-unconnected-send = RequestEncode.write-unconnected-send-exact;
       read-message = MessageRead.read-message-exact;
+      first-byte = MessageRead.first-byte-exact;
       route-at = MessageRead.route-at-exact;
       padded-route-at = MessageRead.padded-route-at-exact;
       read-forward-open = ForwardRead.read-forward-open-exact;

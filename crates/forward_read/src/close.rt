@@ -1,8 +1,8 @@
 // Forward Close: ten bytes, path size, a reserved byte, path.
 use crate::CloseRead;
-use crate::first::first_byte;
 use connection::ForwardCloseRequest;
 use message_read::Judged;
+use message_read::first_byte;
 use message_read::padded_route_at;
 use wire::Counted;
 use wire_read::byte_at;

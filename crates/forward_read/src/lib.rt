@@ -1,7 +1,6 @@
 // Forward Open, small and large, and Forward Close, read. rseip-cip has no such readers: they are added.
 // A reader answers the record, and start and length of its path in the input; the path is judged and its segments are read from that part.
 mod close; // close.rt: Forward Close
-mod first; // first.rt: what both share, the first byte
 mod open; // open.rt: Forward Open, small and large
 
 pub use close::read_forward_close;

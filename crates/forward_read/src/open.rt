@@ -1,6 +1,5 @@
 // Forward Open, small and large: 22 bytes, each direction's packet interval and parameters, class and trigger, path size, path.
 use crate::OpenRead;
-use crate::first::first_byte;
 use connection::ConnectionParameters;
 use connection::Direction;
 use connection::OpenOptions;
@@ -10,6 +9,7 @@ use connection_words::ParametersRead;
 use connection_words::TransportRead;
 use connection_words::decode_parameters;
 use message_read::Judged;
+use message_read::first_byte;
 use message_read::route_at;
 use transport_words::transport_of;
 use wire::Counted;

@@ -1,7 +1,6 @@
 // Requests, whole: the reader of Unconnected Send here, and the other readers, sizes and writers handed on from the crates below. A message,
 // Forward Open (small and large), Forward Close and Unconnected Send. rseip-cip has no such readers: they are added.
 // A reader answers the record, and its parts as starts and lengths in the input; the path is judged and its segments are read from that part.
-mod first; // first.rt: the first byte
 mod send; // send.rt: Unconnected Send
 
 use connection::UnconnectedSend;

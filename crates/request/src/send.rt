@@ -1,8 +1,8 @@
 // Unconnected Send: two bytes, the message's size, the message, a zero where it is odd, path size, a reserved byte, path.
 use crate::SendRead;
-use crate::first::first_byte;
 use connection::UnconnectedSend;
 use message_read::Judged;
+use message_read::first_byte;
 use message_read::padded_route_at;
 use wire::Counted;
 use wire::Refusal;

@@ -22,7 +22,7 @@ fn put(lengths: &mut [usize], at: usize, n: usize) {
 
 // As large a part of the longest body as n is of the most items.
 pub(crate) fn share(n: usize) -> usize {
-    n % 100000 * 65535 / 20000
+    n % 100000 * crate::LONGEST / crate::MOST
 }
 
 // What the last of n items has, where the others have a byte each: it brings the body to a total, where that leaves it any.

@@ -9,7 +9,7 @@ use lib.Seq.{sets, drop-drop, getD-drop}
 use Rattle.wire.specs.Numbers.{valueOf, Bytes}
 use Rattle.wire.specs.Records.{Field, byte, number, bytesOf, laid, width, widths, Holds, AllHold, fieldAt, fieldsAt}
 use Rattle.wire.proofs.Numbers.{value-low, low-value, low-length, bytes-drop, first-one}
-use Rattle.wire.proofs.Stores.{sets-append, past-part}
+use Rattle.wire.proofs.Stores.{sets-onto, past-part}
 use Rattle.wire.proofs.Folds.{joined-append}
 
 field-length : (f : Field) → length (bytesOf f) ≡ width f
@@ -67,9 +67,6 @@ fields-again (f ∷ fs) s at b h =
 pub laid-more : (fs : List Field) (f : Field) (old a b : List ℕ) (n at : ℕ) → a ≡ sets old n (laid fs) → at ≡ n + widths fs → b ≡ sets a at (bytesOf f)
     → b ≡ sets old n (laid (fs ++ (f ∷ [])))
 laid-more fs f old a b n at e h g =
-    g
-    ∙ ap (λ (k : ℕ). sets a k (bytesOf f)) (h ∙ ap (λ (k : ℕ). n + k) (sym (laid-length fs)))
-    ∙ ap (λ (l : List ℕ). sets l (n + length (laid fs)) (bytesOf f)) e
-    ∙ sets-append old (laid fs) (bytesOf f) n
+    sets-onto old a b (laid fs) (bytesOf f) n at e (h ∙ ap (λ (k : ℕ). n + k) (sym (laid-length fs))) g
     ∙ ap (λ (l : List ℕ). sets old n (laid fs ++ l)) (sym (append-nil (bytesOf f)))
     ∙ ap (λ (l : List ℕ). sets old n l) (sym (joined-append bytesOf fs (f ∷ [])))

@@ -18,6 +18,10 @@ module _ {A : Type 0} where
       ap (λ (k : ℕ). sets (sets (set l n x) (suc n) a) k b) (add-suc n (length a) ∙ sym (suc-add n (length a)))
       ∙ sets-append (set l n x) a b (suc n)
 
+  -- a store where the run before it ends
+  pub sets-onto : (old x y a b : List A) (n at : ℕ) → x ≡ sets old n a → at ≡ n + length a → y ≡ sets x at b → y ≡ sets old n (a ++ b)
+  sets-onto old x y a b n at e h f = f ∙ ap (λ (k : ℕ). sets x k b) h ∙ ap (λ (l : List A). sets l (n + length a) b) e ∙ sets-append old a b n
+
   -- a run that begins past n changes only what is past n
   pub sets-part : (l a : List A) (n i : ℕ) → sets l (n + i) a ≡ take n l ++ sets (drop n l) i a
   sets-part l [] n i = sym (take-append-drop n l)
@@ -168,9 +172,7 @@ halves v =
 
 pub store-four : (old a b : List ℕ) (at v : ℕ) → a ≡ sets old at (lowFirst 2 (v % 65536)) → b ≡ sets a (at + 2) (lowFirst 2 (v / 65536 % 65536)) → b ≡ sets old at (lowFirst 4 v)
 store-four old a b at v e f =
-    f ∙ ap (λ (l : List ℕ). sets l (at + 2) (lowFirst 2 (v / 65536 % 65536))) e
-    ∙ sets-append old (lowFirst 2 (v % 65536)) (lowFirst 2 (v / 65536 % 65536)) at
-    ∙ ap (λ (l : List ℕ). sets old at l) (halves v)
+    sets-onto old a b (lowFirst 2 (v % 65536)) (lowFirst 2 (v / 65536 % 65536)) at (at + 2) e refl f ∙ ap (λ (l : List ℕ). sets old at l) (halves v)
 
 pub ruleset store-laws = (store-past, store-two, store-two-past, store-four, store-four-past)
 

@@ -1,12 +1,15 @@
-// The first byte of a Forward Open or a Forward Close.
-use message_read::Judged;
+// What the Connection Manager's requests share: the first byte.
+use crate::Judged;
 use wire::Refusal;
 use wire_read::byte_at;
 ghost use mathlib.Core.Path.{_≡_};
 ghost use Rattle.message_read.specs.Reads.{verdict, paperJudged, firstRules};
+
+// The low four bits of the first byte; those above are reserved.
+const MOST_TICKS: u8 = 15;
 
 // The whole limit, and the first byte of a Connection Manager's request.
-pub(crate) fn first_byte(s: &[u8]) -> Judged
+pub fn first_byte(s: &[u8]) -> Judged
     ensures { λ r. ⌜ paperJudged r ≡ verdict (firstRules (now (s .entry))) ⌝ }
 {
     if connection::MAX_RECORD < s.len() {
@@ -16,7 +19,7 @@ pub(crate) fn first_byte(s: &[u8]) -> Judged
         return Judged::Refused(Refusal::Short);
     }
     let ticks = byte_at(s, 0);
-    if message_read::MOST_TICKS < ticks {
+    if MOST_TICKS < ticks {
         return Judged::Refused(Refusal::Form);
     }
     Judged::Kept

@@ -1,10 +1,10 @@
--- `request::first::first_byte` meets its contract. Assumes nothing.
+-- `message_read::first::first_byte` meets its contract. Assumes nothing.
 --: use Rattle.message_read.proofs.ReadLaws.{first-laws}
 --: * = search (first-laws, needs) fits 5000
 use Rattle.message_read.proofs.ReadLaws.{first-laws}
 use borrow.Author.Needs.{needs}
-use Rattle.request.proofs.first.first_byte.Statement.{statement}
-use Rattle.request.proofs.first.first_byte.Tie as tie
+use Rattle.message_read.proofs.first.first_byte.Statement.{statement}
+use Rattle.message_read.proofs.first.first_byte.Tie as tie
 
 returns : tie.Need-returns
 returns c = search (first-laws, needs) fits 5000
