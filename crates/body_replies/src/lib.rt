@@ -39,8 +39,8 @@ pub fn walk_reply(s: &[u8], count: usize, index: usize) -> ReplyRead
     ensures { λ r. ⌜ paperReply r ≡ walkReply (now (s .entry)) count index ⌝ }
 {
     match walk_item(s, count, index) {
-        ItemRead::Refused(e) => ReplyRead::Refused(e),
         ItemRead::Found(item) => reply_in(s, item),
+        ItemRead::Refused(e) => ReplyRead::Refused(e),
     }
 }
 
@@ -49,7 +49,7 @@ pub fn reply_item(s: &[u8], index: usize) -> ReplyRead
     ensures { λ r. ⌜ paperReply r ≡ bodyReply (now (s .entry)) index ⌝ }
 {
     match body_item(s, index) {
-        ItemRead::Refused(e) => ReplyRead::Refused(e),
         ItemRead::Found(item) => reply_in(s, item),
+        ItemRead::Refused(e) => ReplyRead::Refused(e),
     }
 }
