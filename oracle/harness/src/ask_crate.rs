@@ -1,7 +1,8 @@
 //! The crate's own answers. Everything here comes from what rseip-cip wrote; nothing from the judge.
-//! This file has segments and paths; requests, replies and bodies have a file each below it.
+//! This file has segments and paths; requests, replies, bodies and nested messages have a file each below it.
 
 pub mod bodies;
+pub mod nested;
 pub mod replies;
 pub mod requests;
 
@@ -122,8 +123,8 @@ pub fn writer_answer(wrote: &Wrote, room: Option<u32>) -> Option<Vec<u8>> {
     Some(digits(&a))
 }
 
-/// The answer to a line of a writer, a size, the default, the setter, or of 20 to 22, 27 and 30 to 34; None where it is
-/// not in the domain, or the crate says only a part of it.
+/// The answer to a line of a writer, a size, the default, the setter, or of 20 to 22, 27, 30 to 34 and 40; None where it
+/// is not in the domain, or the crate says only a part of it.
 pub fn of_line(line: &[u8]) -> Option<Vec<u8>> {
     if let Some(w) = Writer::of_line(line) {
         return answer(&w);
@@ -151,6 +152,12 @@ pub fn of_line(line: &[u8]) -> Option<Vec<u8>> {
     }
     if let Some(j) = Join::of_line(line) {
         return bodies::join_answer(&j);
+    }
+    if let Some(input) = crate::case::nested::of_line(line) {
+        return match nested::says(&input) {
+            nested::Says::Line(a) => Some(a),
+            _ => None,
+        };
     }
     match crate::case::undigits(line)?[..] {
         [0x15, value] => Some(requests::setter_answer(value)),

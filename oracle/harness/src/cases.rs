@@ -9,6 +9,12 @@ pub mod bodies_writes;
 pub mod damage;
 pub mod envelopes;
 pub mod lines;
+pub mod nested;
+pub mod nested_depth;
+pub mod nested_drawn;
+pub mod nested_limits;
+pub mod nested_order;
+pub mod nested_reads;
 pub mod path_lists;
 pub mod path_reads;
 pub mod path_refusals;
@@ -48,6 +54,8 @@ pub enum Truth {
     Failed(Status),
     /// the judge; the crate was asked too, and what it did is counted by kind
     Beside(Beside),
+    /// the judge, which may not accept it: it is not in the crate's domain
+    Outside,
     /// the judge alone
     Judge,
 }
@@ -79,12 +87,16 @@ pub fn fixed(to: &mut Sink) {
     bodies_writes::fixed(to);
     bodies_reads::fixed(to);
     bodies_joins::fixed(to);
+    nested_reads::fixed(to);
+    nested_depth::fixed(to);
+    nested_order::fixed(to);
+    nested_limits::fixed(to);
     lines::fixed(to);
 }
 
 /// One draw: a case or a few that belong together.
 pub fn random(rng: &mut Rng, to: &mut Sink) {
-    match rng.below(226) {
+    match rng.below(248) {
         0..=16 => path_lists::random(rng, to),
         17..=43 => path_lists::random_segment(rng, to),
         44..=54 => path_reads::random(rng, to),
@@ -102,7 +114,9 @@ pub fn random(rng: &mut Rng, to: &mut Sink) {
         200..=214 => bodies_drawn::random_write(rng, to),
         215..=219 => bodies_drawn::random(rng, to),
         220..=223 => bodies_drawn::random_read(rng, to),
-        _ => bodies_drawn::random_refusal(rng, to),
+        224..=225 => bodies_drawn::random_refusal(rng, to),
+        226..=241 => nested_drawn::random(rng, to),
+        _ => nested_drawn::random_read(rng, to),
     }
 }
 

@@ -4,6 +4,7 @@
 //! This file has the lines and their fields; each group of operations has a file below it.
 
 mod bodies;
+mod nested;
 mod paths;
 mod reader;
 mod replies;
@@ -64,6 +65,7 @@ fn case(bytes: &[u8]) -> Option<Vec<u8>> {
         0x10..=0x15 | 0x18..=0x1B => requests::case(op, &mut f),
         0x20..=0x27 => replies::case(op, &mut f),
         0x30..=0x34 => bodies::case(op, &mut f),
+        0x40 => nested::case(&mut f),
         _ => None,
     }
 }

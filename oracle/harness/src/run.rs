@@ -184,6 +184,12 @@ pub fn judge_case(case: &Case, ours: &[u8], tally: &mut Tally) {
             tally.add(Source::Judge, line, &judged, ours);
             tally.beside(line, *beside, &judged);
         }
+        Truth::Outside => {
+            tally.add(Source::Judge, line, &judged, ours);
+            if judged.starts_with(b"00") {
+                tally.documents(line, b"not in its domain", &judged);
+            }
+        }
         Truth::Judge => tally.add(Source::Judge, line, &judged, ours),
     }
 }

@@ -56,7 +56,7 @@ fn span(b: &[u8], k: usize) -> (usize, usize) {
 }
 
 /// The items of a body of the domain.
-fn items(input: &[u8]) -> Option<Vec<&[u8]>> {
+pub fn items(input: &[u8]) -> Option<Vec<&[u8]>> {
     let named = |k| input.get(span(input, k).0..span(input, k).1);
     let items: Vec<&[u8]> = (0..u16_at(input, 0)).map(named).collect::<Option<_>>()?;
     (are_in_domain(&items) && encoded(&items).as_deref() == Ok(input)).then_some(items)

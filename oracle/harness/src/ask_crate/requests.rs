@@ -20,8 +20,8 @@ use rseip_cip::epath::EPath;
 use rseip_cip::service::request::UnconnectedSend;
 use rseip_cip::MessageRequest;
 
-const LONGEST_PATH: usize = 254;
-const LONGEST_RECORD: usize = 65_535;
+pub const LONGEST_PATH: usize = 254;
+pub const LONGEST_RECORD: usize = 65_535;
 const MOST_SMALL_SIZE: u16 = 511;
 
 /// What the crate writes for a record; None: not in the domain.
@@ -102,12 +102,12 @@ fn send(prio: u8, ticks: u8, message: &[u8], path: EPath) -> Option<Wrote> {
     })
 }
 
-fn carrying<D>(priority_ticks: u8, timeout_ticks: u8, path: EPath, data: D) -> UnconnectedSend<EPath, D> {
+pub fn carrying<D>(priority_ticks: u8, timeout_ticks: u8, path: EPath, data: D) -> UnconnectedSend<EPath, D> {
     UnconnectedSend { priority_ticks, timeout_ticks, path, data }
 }
 
 /// Service, path and data of a message in the domain.
-fn parts(message: &[u8]) -> Option<(u8, &[u8], &[u8])> {
+pub fn parts(message: &[u8]) -> Option<(u8, &[u8], &[u8])> {
     let size = 2 * usize::from(*message.get(1)?);
     (size <= LONGEST_PATH && message.len() >= 2 + size).then(|| (message[0], &message[2..2 + size], &message[2 + size..]))
 }
@@ -154,7 +154,7 @@ pub fn again(r: &Record, ours: &[u8]) -> Option<Wrote> {
 
 /// A path's bytes as segments, whatever their form: the crate writes the one form of them, which is then held against
 /// the bytes. None where there is no such segment, or its end is missing.
-fn segments(path: &[u8]) -> Option<Vec<Plain>> {
+pub fn segments(path: &[u8]) -> Option<Vec<Plain>> {
     let mut list = vec![];
     let mut at = 0;
     while at < path.len() {

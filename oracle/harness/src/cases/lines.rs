@@ -2,9 +2,11 @@
 //! inputs with lines that have none are in scripts.rs.
 
 use super::path_lists::{any_list, scattered};
-use super::{bodies, bodies_drawn, envelopes, replies, replies_drawn, requests, requests_drawn, Case, Sink, Truth};
+use super::{bodies, bodies_drawn, envelopes, nested, nested_drawn, replies, replies_drawn, requests, requests_drawn};
+use super::{Case, Sink, Truth};
 use crate::ask_crate;
 use crate::case::bodies::{Ask, Items, Join};
+use crate::case::nested::line as nested_line;
 use crate::case::replies::Reply;
 use crate::case::requests::{default_line, Record, Request};
 use crate::case::*;
@@ -44,6 +46,7 @@ pub fn good_lines() -> Vec<Vec<u8>> {
     v.push(Items::of(&[vec![0xAA], vec![0xBB, 0xCC]], 10).line());
     v.extend([Ask::Count, Ask::Item(1), Ask::Reply(1)].map(|a| a.line(&bodies::TWO_WORDS)));
     v.push(Join { first: bodies::JOIN_FIRST.to_vec(), second: bodies::JOIN_SECOND.to_vec(), room: 12 }.line());
+    v.push(nested_line(&nested::EXAMPLE));
     v
 }
 
@@ -175,7 +178,7 @@ pub fn random(rng: &mut Rng, to: &mut Sink) {
     plain.truncate(5);
     let (pool, list) = scattered(rng, &plain);
     let room = rng.below(50) as u32;
-    let line = match rng.below(5) {
+    let line = match rng.below(6) {
         0 => Writer { op: rng.pick(&[2, 4]), pool, list, room }.line(),
         1 | 2 => Request { head: requests_drawn::any_head(rng), pool, list, room }.line(),
         3 => {
@@ -189,6 +192,7 @@ pub fn random(rng: &mut Rng, to: &mut Sink) {
                 _ => Join { first: input, second: bodies::JOIN_SECOND.to_vec(), room }.line(),
             }
         }
+        4 => nested_line(&nested::wire(&nested_drawn::any_tree(rng, 3))),
         _ => {
             let f = replies_drawn::any_forward(rng);
             match rng.below(4) {

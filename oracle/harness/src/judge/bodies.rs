@@ -63,7 +63,7 @@ fn layout(list: &[&[u8]]) -> Judged<Vec<u8>> {
 }
 
 /// The items of a body. Each offset is a field of its own (DECISIONS 1), and all are judged before any item.
-fn items(input: &[u8]) -> Judged<Vec<Part>> {
+pub fn items(input: &[u8]) -> Judged<Vec<Part>> {
     let mut r = Reader::new(input)?;
     let count = r.number(2)? as usize;
     if count == 0 {
@@ -90,7 +90,7 @@ fn item(input: &[u8], index: u64) -> Judged<Part> {
 fn join(first: &[u8], second: &[u8]) -> Judged<Vec<u8>> {
     let mut list = vec![];
     for body in [first, second] {
-        list.extend(items(body)?.iter().map(|p| &body[p.start..p.start + p.len]));
+        list.extend(items(body)?.iter().map(|p| p.of(body)));
     }
     layout(&list)
 }

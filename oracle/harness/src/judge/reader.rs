@@ -9,6 +9,9 @@ pub struct Part {
 }
 
 impl Part {
+    pub fn of<'a>(&self, input: &'a [u8]) -> &'a [u8] {
+        &input[self.start..self.start + self.len]
+    }
     pub fn fields(&self) -> Vec<u8> {
         [low_first(self.start as u32), low_first(self.len as u32)].concat()
     }

@@ -1,6 +1,6 @@
 //! The judge on requests: the fields of a case, and the writers 10 to 15. The readers, 18 to 1B, are in the file below.
 
-mod readers;
+pub mod readers;
 
 use super::paths::{all, list};
 use super::{answer, low_first, two, writer, Fields, Judged, LONGEST_RECORD};
@@ -11,7 +11,7 @@ const MOST_SMALL_SIZE: u16 = 511;
 
 /// The two forms of a Forward Open's parameter words.
 #[derive(Clone, Copy, PartialEq)]
-enum Form {
+pub enum Form {
     Small,
     Large,
 }

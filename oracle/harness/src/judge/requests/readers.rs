@@ -6,13 +6,18 @@ use super::super::paths::read_all;
 use super::super::reader::{Part, Reader};
 use super::{Form, Judged, LONGEST_PATH};
 
-/// Service, size in words, path, and the rest is data.
 pub fn message(input: &[u8]) -> Judged<Vec<u8>> {
+    let (service, path, data) = message_parts(input)?;
+    Ok([vec![service], path.fields(), data.fields()].concat())
+}
+
+/// Service, size in words, path, and the rest is data.
+pub fn message_parts(input: &[u8]) -> Judged<(u8, Part, Part)> {
     let mut r = Reader::new(input)?;
     let service = r.number(1)? as u8;
     let size = r.path_size()?;
     let path = r.path(size)?;
-    Ok([vec![service], path.fields(), r.rest().fields()].concat())
+    Ok((service, path, r.rest()))
 }
 
 pub fn open(form: Form, input: &[u8]) -> Judged<Vec<u8>> {
@@ -80,8 +85,14 @@ pub fn close(input: &[u8]) -> Judged<Vec<u8>> {
     Ok(out)
 }
 
-/// The message is plain bytes of any length; the pad after an odd one is a field.
 pub fn send(input: &[u8]) -> Judged<Vec<u8>> {
+    let (head, message, path) = send_parts(input)?;
+    Ok([head, message.fields(), path.fields()].concat())
+}
+
+/// Priority and ticks, the message, the route. The message is plain bytes of any length; the pad after an odd one is a
+/// field.
+pub fn send_parts(input: &[u8]) -> Judged<(Vec<u8>, Part, Part)> {
     let mut r = Reader::new(input)?;
     let mut out = vec![r.priority()?];
     out.extend(r.plain(1)?);
@@ -94,7 +105,7 @@ pub fn send(input: &[u8]) -> Judged<Vec<u8>> {
     r.zeros(1)?;
     let path = r.path(size)?;
     r.end()?;
-    Ok([out, message.fields(), path.fields()].concat())
+    Ok((out, message, path))
 }
 
 impl Reader<'_> {
