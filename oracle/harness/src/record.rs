@@ -3,12 +3,14 @@
 
 mod crate_bodies;
 mod crate_list;
+mod crate_nested;
 mod crate_replies;
 mod crate_requests;
 mod our_bodies;
 mod our_body_reads;
 mod our_envelopes;
 mod our_list;
+mod our_nested;
 mod our_replies;
 mod our_request_reads;
 mod our_requests;
@@ -36,14 +38,16 @@ const HEAD_1: &str = ": the answers of the Rust crate rseip-cip 0.2.1.
 # failure is told to be a routing error exactly where the crate's is_routing_error says so.
 # Operations 30 to 34: 30 and 34 from its encoder, which has the items of both bodies; 31 and 32 from the body that it
 # writes of the items that the input's table names, which is the input; 33 from its reply walk, each item read to its end.
+# Operation 40: the crate writes each input again from the messages that it holds, from the inside out. Depths and services
+# are those that it was given, the bytes of a path are its count, and those of data what it wrote.
 ";
 
 const HEAD_2: &str = ": ours. No Rust gave these answers.
 # Made by the same command: oracle/harness/src/judge.rs answered each, which is written from document 01 and from
 # docs/ANSWERS.md, apart from the program that is asked. Refusals and their order, the readers, symbols that no
 # Rust String holds, an Unconnected Send of what is no message, the writers of replies, a failure that is told otherwise
-# than the crate decides, the envelope, failed items of a body, and lines that are no case. R1 to R7, E1 to E4 and B1 to
-# B11 are rows of docs/DIFFERENCES.md.
+# than the crate decides, the envelope, failed items of a body, nested messages that are refused, and lines that are no
+# case. R1 to R7, E1 to E4 and B1 to B11 are rows of docs/DIFFERENCES.md.
 ";
 
 /// The text of `stdin`, as it grows.
@@ -72,6 +76,7 @@ pub fn write(folder: &str) -> Result<()> {
     crate_requests::write(&mut s);
     crate_replies::write(&mut s);
     crate_bodies::write(&mut s);
+    crate_nested::write(&mut s);
     let crate_part = s.0.len();
     s.0.extend([LIST_2, HEAD_2].concat().bytes());
     our_list::write(&mut s);

@@ -15,6 +15,7 @@ pub fn write(s: &mut Script) {
     super::our_replies::write(s);
     super::our_envelopes::write(s);
     super::our_bodies::write(s);
+    super::our_nested::write(s);
     no_case(s);
     freedoms(s);
 }
