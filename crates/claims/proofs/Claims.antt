@@ -96,6 +96,10 @@ use Rattle.body_replies.proofs.reply_item
 use Rattle.body_replies.proofs.Exact as BodyReplies
 use Rattle.body.proofs.join_bodies
 use Rattle.body.proofs.Exact as Body
+use Rattle.nested.proofs.read_nested
+use Rattle.nested.proofs.Exact as Nested
+use Rattle.dump_text.proofs.write_dump
+use Rattle.dump_text.proofs.Exact as DumpText
 
 pub record Claims : Type 2 where
   -- wire
@@ -191,6 +195,10 @@ pub record Claims : Type 2 where
   pub reply-item : Exact reply_item.ended (λ _. reply_item.clauses)
   -- body
   pub join-bodies : Exact join_bodies.ended (λ _. join_bodies.clauses)
+  -- nested
+  pub read-nested : Exact read_nested.ended (λ _. read_nested.clauses)
+  -- dump_text
+  pub write-dump : Exact write_dump.ended (λ _. write_dump.clauses)
 
 pub claims : Claims
 claims =
@@ -259,4 +267,6 @@ claims =
       walk-reply = BodyReplies.walk-reply-exact;
       reply-item = BodyReplies.reply-item-exact;
       join-bodies = Body.join-bodies-exact;
+      read-nested = Nested.read-nested-exact;
+      write-dump = DumpText.write-dump-exact;
     }
