@@ -8,6 +8,7 @@ mod request_reads; // request_reads.rt: operations 18 to 1B
 mod reply_reads; // reply_reads.rt: operations 20 to 22 and 26
 mod reply_writes; // reply_writes.rt: operations 23 to 25 and 27
 mod bodies; // bodies.rt: operations 30 to 34
+mod nests; // nests.rt: operation 40
 
 use fields::MAX_ROOM;
 use lines::Case;
@@ -16,8 +17,8 @@ use lines::Line;
 // Bytes of the longest case.
 const MAX_CASE: usize = lines::MAX_DIGITS / 2;
 
-// Bytes of the longest answer: the largest output, behind a byte and its size.
-const MAX_REPLY: usize = MAX_ROOM + 5;
+// Bytes of the longest answer: the rows of the message that has most. The largest output, behind a byte and its size, is shorter.
+const MAX_REPLY: usize = nests::MAX_ROWS_REPLY;
 
 const NEWLINE: u8 = 10;
 
@@ -53,6 +54,9 @@ fn ask(case: &[u8], lent: &mut [u8], reply: &mut [u8]) -> usize {
     }
     if 0x30 <= op && op < 0x35 {
         return bodies::ask(op, case, lent, reply);
+    }
+    if op == 0x40 {
+        return nests::ask(case, reply);
     }
     0
 }

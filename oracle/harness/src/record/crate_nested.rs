@@ -20,6 +20,7 @@ pub fn write(s: &mut Script) {
     near(s);
     lengths(s);
     many(s);
+    most(s);
     drawn(s);
 }
 
@@ -114,6 +115,12 @@ fn many(s: &mut Script) {
     }
     s.line(&line(&packet(&vec![packet(&twos(3, 1)); 20])));
     s.line(&line(&send(&packet(&vec![packet(&twos(4, 2)); 3]))));
+}
+
+/// A long line, for the limit on the whole and for the room that our program has for rows.
+fn most(s: &mut Script) {
+    s.group("nested reading: the most messages that fit, 16,382 in 65,535 bytes");
+    s.line(&line(&packet(&twos(16_381, 3))));
 }
 
 fn drawn(s: &mut Script) {

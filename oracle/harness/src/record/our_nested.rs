@@ -5,6 +5,7 @@ use super::Script;
 use crate::case::nested::line;
 use crate::cases::nested::*;
 use crate::cases::nested_depth::refused;
+use crate::cases::nested_limits::twos;
 use crate::cases::requests::GET;
 
 pub fn write(s: &mut Script) {
@@ -15,6 +16,7 @@ pub fn write(s: &mut Script) {
     fronts(s);
     near(s);
     no_case(s);
+    over(s);
 }
 
 fn put(s: &mut Script, input: &[u8]) {
@@ -146,4 +148,9 @@ fn no_case(s: &mut Script) {
     for input in [&[][..], &[0x0A], &[0x52], &[0, 0], &[0x0A, 0], &[0x52, 2]] {
         put(s, input);
     }
+}
+
+fn over(s: &mut Script) {
+    s.group("nested reading, 3: a byte more than the limit");
+    put(s, &packet(&twos(16_381, 4)));
 }
