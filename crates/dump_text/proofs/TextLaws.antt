@@ -9,16 +9,16 @@ use lib.Seq.{sets, length-sets, getD-drop}
 use Rattle.wire.specs.Refusals.{number}
 use Rattle.wire.specs.Parts.{overlay}
 use Rattle.wire.specs.Folds.{joined}
-use Rattle.wire.specs.Answers.{Answer, done, refused, under, paperCount, written, Put}
+use Rattle.wire.specs.Answers.{Answer, done, refused, paperCount, written, Put}
 use Rattle.wire.specs.declared.Refusal.{Refusal}
 use Rattle.wire.specs.declared.Counted.{Counted}
 use Rattle.wire.specs.declared.Counted.the-variants.{Count, Refused as NotCounted}
-use Rattle.wire.proofs.Rules.{rules, all-keep}
+use Rattle.wire.proofs.Rules.{rules}
 use Rattle.wire.proofs.Stores.{sets-append, sets-onto, sets-overlay, past-part}
 use Rattle.nested.specs.Nested.{maxRows, rowSize, Row, numbers, nested, counted, stored}
 use Rattle.nested.proofs.Few.{most-rows}
-use Rattle.nested.proofs.RowLaws.{lent-none}
-use Rattle.dump_text.specs.Text.{blank, newline, word, hexWord, line, refusedLine, textOf, dumpText, textAnswer, textOver, maxLine, maxText, rowAt, linesFrom, textIn, most, roomy, Placed}
+use Rattle.nested.proofs.RowLaws.{counted-fits, lent-none}
+use Rattle.dump_text.specs.Text.{blank, newline, word, hexWord, line, refusedWord, refusedLine, textOf, dumpText, textAnswer, textOver, maxLine, maxText, rowAt, linesFrom, textIn, howMany, roomy, Placed}
 use Rattle.dump_text.proofs.WordLaws.{placed-then, word-most, line-most}
 
 -- ---- a line
@@ -99,11 +99,11 @@ module _ (l : List ℕ) (n rest at : ℕ) (old out : List ℕ) (h : Lines l n re
 pub ruleset lines-laws = (lines-first, lines-end, lines-row, lines-place, lines-more)
 
 -- ---- a refusal, and a text
-pub refused-put : (old mid new : List ℕ) (v k r : ℕ) → v ≡ k → mid ≡ sets old 0 (114 ∷ 101 ∷ 102 ∷ 117 ∷ 115 ∷ 101 ∷ 100 ∷ blank ∷ []) → Placed (word v newline) 8 r mid new
+pub refused-put : (old mid new : List ℕ) (v k r : ℕ) → v ≡ k → mid ≡ sets old 0 refusedWord → Placed (word v newline) 8 r mid new
     → Put (refusedLine k) old r new
 refused-put old mid new v k r i e p = rw (← i) (record {
   size = p .next ∙ omega arith;
-  stored = sets-onto old mid new (114 ∷ 101 ∷ 102 ∷ 117 ∷ 115 ∷ 101 ∷ 100 ∷ blank ∷ []) (word v newline) 0 8 e refl (p .stored);
+  stored = sets-onto old mid new refusedWord (word v newline) 0 8 e refl (p .stored);
 })
 
 module _ (c : Counted) (l : List ℕ) (old new : List ℕ) (r : ℕ) where
@@ -113,7 +113,7 @@ module _ (c : Counted) (l : List ℕ) (old new : List ℕ) (r : ℕ) where
   pub text-refused : (e : Refusal) → c ≡ NotCounted e → Put (refusedLine (number e)) old r new → Put (textIn (paperCount c) l) old r new
   text-refused e h p = rw h p
 
-pub text-few : (c : Counted) (n : ℕ) → c ≡ Count n → most (paperCount c) ≤ maxRows → n ≤ maxRows
+pub text-few : (c : Counted) (n : ℕ) → c ≡ Count n → howMany (paperCount c) ≤ maxRows → n ≤ maxRows
 text-few c n h b = rw h at b
 
 pub ruleset text-laws = (text-lines, text-refused, text-few)
@@ -134,9 +134,8 @@ rows-lines (r ∷ rs) l t k e =
 
 module _ (s l : List ℕ) (room : length l ≡ rowSize * maxRows) where
   -- there is room for the rows of every message
-  has-room : (w : Answer (List Row)) (rs : List Row) → w ≡ done rs → length rs ≤ maxRows → counted w (length l) ≡ done (length rs)
-  unfolding counted
-  has-room w rs e h = rw e (all-keep (under (length l) (rowSize * length rs) 2 ∷ []) (done (length rs)) (omega (arith, room), tt))
+  has-room : (rs : List Row) → nested s ≡ done rs → counted (done rs) (length l) ≡ done (length rs)
+  has-room rs e = counted-fits (done rs) rs (length l) refl (omega (arith, room, most-rows s rs e))
 
   text-is : textIn (counted (nested s) (length l)) (stored (nested s) l) ≡ dumpText s
   unfolding dumpText overlay stored counted
@@ -148,16 +147,16 @@ module _ (s l : List ℕ) (room : length l ≡ rowSize * maxRows) where
       go : (w : Answer (List Row)) → nested s ≡ w → textIn (counted w (length l)) (stored w l) ≡ textOf w
       go (refused k) e = refl
       go (done rs) e =
-          let q : counted (done rs) (length l) ≡ done (length rs) = has-room (done rs) rs refl (most-rows s rs e) in
+          let q : counted (done rs) (length l) ≡ done (length rs) = has-room rs e in
           ap (λ (a : Answer ℕ). textIn a (written a (joined numbers rs) l)) q ∙ front rs
 
-  pub dump-few : (c : Counted) → paperCount c ≡ counted (nested s) (length l) → most (paperCount c) ≤ maxRows
+  pub dump-few : (c : Counted) → paperCount c ≡ counted (nested s) (length l) → howMany (paperCount c) ≤ maxRows
   unfolding counted
   dump-few c e = rw e (go (nested s) refl)
     where
-      go : (w : Answer (List Row)) → nested s ≡ w → most (counted w (length l)) ≤ maxRows
+      go : (w : Answer (List Row)) → nested s ≡ w → howMany (counted w (length l)) ≤ maxRows
       go (refused k) e = omega arith
-      go (done rs) e = rw (has-room (done rs) rs refl (most-rows s rs e)) (most-rows s rs e)
+      go (done rs) e = rw (has-room rs e) (most-rows s rs e)
 
 -- ---- the text of a message, first stored nowhere
 module _ (s l0 l old : List ℕ) (room : length l0 ≡ rowSize * maxRows) (c : Counted) (ce : paperCount c ≡ counted (nested s) (length l0)) (le : l ≡ stored (nested s) l0) where

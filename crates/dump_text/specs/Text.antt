@@ -42,9 +42,12 @@ hexWord b = hexText (b ∷ []) ++ (blank ∷ [])
 abbrev pub line : Row → List ℕ
 line r = word (r .depth) blank ++ (hexWord (r .service) ++ (word (r .pathLen) blank ++ word (r .dataLen) newline))
 
--- the word `refused`, a blank, and the number
+-- `refused` and a blank
+abbrev pub refusedWord : List ℕ
+refusedWord = 114 ∷ 101 ∷ 102 ∷ 117 ∷ 115 ∷ 101 ∷ 100 ∷ blank ∷ []
+
 abbrev pub refusedLine : ℕ → List ℕ
-refusedLine k = (114 ∷ 101 ∷ 102 ∷ 117 ∷ 115 ∷ 101 ∷ 100 ∷ blank ∷ []) ++ word k newline
+refusedLine k = refusedWord ++ word k newline
 
 abbrev pub textOf : Answer (List Row) → List ℕ
 textOf (done rs) = joined line rs
@@ -84,9 +87,9 @@ textIn (done n) l = linesFrom n l 0
 textIn (refused k) l = refusedLine k
 
 -- how many rows an answer counts
-abbrev pub most : Answer ℕ → ℕ
-most (done n) = n
-most (refused k) = 0
+abbrev pub howMany : Answer ℕ → ℕ
+howMany (done n) = n
+howMany (refused k) = 0
 
 -- places that can be counted on from
 abbrev pub roomy : ℕ

@@ -13,7 +13,7 @@ ghost use lib.ListN.{length, getD};
 ghost use Rattle.wire.specs.Refusals.{number};
 ghost use Rattle.wire.specs.Answers.{paperSize, paperCount, Put};
 ghost use Rattle.nested.specs.Nested.{maxRows, rowSize};
-ghost use Rattle.dump_text.specs.Text.{maxText, rowAt, line, linesFrom, refusedLine, most, textIn, textAnswer, textOver, Placed};
+ghost use Rattle.dump_text.specs.Text.{maxText, rowAt, line, linesFrom, refusedLine, howMany, textIn, textAnswer, textOver, Placed};
 
 // Bytes of the longest text, and more: no message has more than MAX_ROWS rows, no line more than 21 bytes. Its twin is in specs/Text.antt.
 pub const MAX_TEXT: usize = 344064;
@@ -67,7 +67,7 @@ fn put_refused(e: Refusal, out: &mut [u8]) -> usize
 
 // Stores the text of what a reading answered, with its rows; answers how many bytes it is.
 fn put_text(c: Counted, rows: &[u16], out: &mut [u8]) -> usize
-    requires { ⌜ most (paperCount c) ≤ maxRows ⌝ }
+    requires { ⌜ howMany (paperCount c) ≤ maxRows ⌝ }
     ensures { λ r. ⌜ Put (textIn (paperCount c) (now (rows .entry))) (now (out .entry)) r (now (out .exit)) ⌝ }
 {
     match c {

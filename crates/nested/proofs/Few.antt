@@ -1,7 +1,7 @@
 -- What is held is smaller than what holds it, so no message has more than a row for every four bytes (`rowBytes`). Assumes nothing.
 use Prim.Native.Nat.{ℕ, zero, suc, _+_, _*_, _-_, _≤_, _<_}
 use mathlib.Core.Path.{_≡_, refl, sym, ap}
-use mathlib.Core.List.{List, [], _∷_, _++_}
+use mathlib.Core.List.{List, [], _∷_}
 use native.Mathlib.Omega.{arith}
 use lib.ListN.{length, getD, drop, length-append}
 use Rattle.wire.specs.Parts.{part}
@@ -20,7 +20,8 @@ use Rattle.body_items.specs.Items.{stopAt, itemsFrom, itemsOf}
 use Rattle.body_items.proofs.ItemLaws.{stop-next, stop-last, Span, span}
 use Rattle.nested.specs.declared.kinds.Kind.{Kind}
 use Rattle.nested.specs.declared.kinds.Kind.the-variants.{Plain, Packet, Send}
-use Rattle.nested.specs.Nested.{maxDepth, levels, opensAs, messageIn, held, Row, rowOf, onto, inOrder, messageBy, listed, nested, maxRows, rowBytes}
+use Rattle.nested.proofs.Order.{Apart, apart, OneLevel, one-level}
+use Rattle.nested.specs.Nested.{maxDepth, levels, messageIn, held, Row, inOrder, listed, nested, maxRows, rowBytes}
 
 -- ---- what was read lies inside
 
@@ -117,27 +118,24 @@ pub in-order-few : (f : List ℕ → Answer (List Row)) → ((x : List ℕ) (rs 
 unfolding inOrder
 in-order-few f b [] rs h = let e : [] ≡ rs = cc in rw (← e) (omega arith)
 in-order-few f b (x ∷ xs) rs h =
-    let w : Went (f x) (λ rs. onto rs (inOrder f xs)) rs = then-were (f x) _ rs h in
-    let v : Went (inOrder f xs) (λ more. done (w .found ++ more)) rs = then-were (inOrder f xs) _ rs (w .then) in
-    let d : done (w .found ++ v .found) ≡ done rs = v .then in
-    let e : w .found ++ v .found ≡ rs = cc in
-    rw (← e) (omega (arith, length-append (w .found) (v .found), b x (w .found) (w .is), in-order-few f b xs (v .found) (v .is)))
+    let a : Apart f x xs rs = apart f x xs rs h in
+    rw (← a .all) (omega (arith, length-append (a .first) (a .rest), b x (a .first) (a .first-is), in-order-few f b xs (a .rest) (a .rest-is)))
 
 pub few : (d : ℕ) (s : List ℕ) (rs : List Row) → listed d s ≡ done rs → rowBytes * length rs ≤ length s + 2
-unfolding listed messageBy
+unfolding listed
 few zero s rs h = never h
 few (suc d) s rs h =
-    let w : Went (readMessage s) _ rs = then-were (readMessage s) _ rs h in
-    let m : MessageRequest = w .found in
-    let i : Inside s m = inside s m (w .is) in
-    let t : List ℕ = part s (m .«data_start») (m .«data_len») in
-    let v : Went _ (λ more. done ((rowOf (maxDepth - d) m ∷ []) ++ more)) rs = then-were _ _ rs (w .then) in
-    let u : Went (held (opensAs s m) t) (inOrder (λ x. listed d x)) (v .found) = then-were _ _ (v .found) (v .is) in
-    let o : rowBytes * length (v .found) ≤ weight (u .found) = in-order-few (λ x. listed d x) (λ x r g. few d x r g) (u .found) (v .found) (u .then) in
-    let e : done ((rowOf (maxDepth - d) m ∷ []) ++ v .found) ≡ done rs = v .then in
-    let z : (rowOf (maxDepth - d) m ∷ v .found) ≡ rs = cc in
-    rw (← z) (omega (arith, o, held-weight _ t (u .found) (u .is), i .held, i .begun))
+    let o : OneLevel d s rs = one-level d s rs h in
+    let i : Inside s (o .message) = inside s (o .message) (o .read) in
+    rw (← o .all)
+    (omega (
+      arith,
+      in-order-few (λ x. listed d x) (λ x r g. few d x r g) (o .them) (o .more) (o .more-is),
+      held-weight _ _ (o .them) (o .holds),
+      i .held,
+      i .begun,
+    ))
 
 pub most-rows : (s : List ℕ) (rs : List Row) → nested s ≡ done rs → length rs ≤ maxRows
-unfolding nested listed messageBy
-most-rows s rs h = let w : Went (readMessage s) _ rs = then-were (readMessage s) _ rs h in omega (arith, few levels s rs h, inside s (w .found) (w .is) .small)
+unfolding nested
+most-rows s rs h = let o : OneLevel maxDepth s rs = one-level maxDepth s rs h in omega (arith, few levels s rs h, inside s (o .message) (o .read) .small)

@@ -2,7 +2,7 @@
 use Prim.Native.Nat.{ℕ, _≤_}
 use mathlib.Core.Path.{_≡_, refl, sym, ap, _∙_}
 use mathlib.Core.List.{List, [], _∷_}
-use mathlib.Core.Bool.{Bool, true, false}
+use mathlib.Core.Bool.{Bool, true, false, true≢false}
 use native.Mathlib.Omega.{arith}
 use mir.Val.{Fits}
 use mir.Syntax.{w8}
@@ -20,20 +20,16 @@ use Rattle.nested.specs.Nested.{packetService, messageRouter, sendServic
 
 -- ---- two lists that are the same
 
--- a test that cannot fail, and one that cannot hold
-not-both : {B : Type 0} → _≡_ {A = Bool} true false → B
-not-both h = absurd (let z : _≡_ {A = ℕ} 0 1 = cc in omega arith)
-
 pub same-true : (a b : List ℕ) → sameBytes a b ≡ true → a ≡ b
 unfolding sameBytes
 same-true [] [] h = refl
-same-true [] (y ∷ b) h = not-both (sym h)
-same-true (x ∷ a) [] h = not-both (sym h)
+same-true [] (y ∷ b) h = absurd (true≢false (sym h))
+same-true (x ∷ a) [] h = absurd (true≢false (sym h))
 same-true (x ∷ a) (y ∷ b) h = go (eqb x y) refl (λ g. same-true a b g) h
   where
     go : (t : Bool) → eqb x y ≡ t → (sameBytes a b ≡ true → a ≡ b) → pick t (sameBytes a b) false ≡ true → (x ∷ a) ≡ (y ∷ b)
     go true e f g = let p : x ≡ y = eqb-true x y e in let q : a ≡ b = f g in rw (p, q)
-    go false e f g = not-both (sym g)
+    go false e f g = absurd (true≢false (sym g))
 
 same-self : (l : List ℕ) → true ≡ sameBytes l l
 unfolding sameBytes

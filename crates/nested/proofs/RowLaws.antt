@@ -1,13 +1,15 @@
 -- Rows: a row is four stores. What a walk with no place to store leaves. Assumes nothing.
-use Prim.Native.Nat.{ℕ, suc, _+_, _*_}
+use Prim.Native.Nat.{ℕ, suc, _+_, _*_, _≤_}
 use mathlib.Core.Path.{_≡_, refl}
 use mathlib.Core.List.{List, [], _∷_, _++_}
 use native.Mathlib.Omega.{arith}
 use lib.ListN.{length, set}
 use lib.Seq.{sets}
 use Rattle.wire.specs.Folds.{joined}
+use Rattle.wire.specs.Answers.{Answer, done, under}
+use Rattle.wire.proofs.Rules.{all-keep}
 use Rattle.wire.proofs.Stores.{store-past}
-use Rattle.nested.specs.Nested.{Row, rowSize, numbers}
+use Rattle.nested.specs.Nested.{Row, rowSize, numbers, counted}
 
 pub four-stores : (l a b c e : List ℕ) (n i w x y z : ℕ) → i ≡ rowSize * n → a ≡ set l i w → b ≡ set a (i + 1) x → c ≡ set b (i + 2) y → e ≡ set c (i + 3) z
     → e ≡ sets l (rowSize * n) (w ∷ x ∷ y ∷ z ∷ [])
@@ -20,6 +22,11 @@ four-stores l a b c e n i w x y z is p q r t =
 pub joined-length : (rs : List Row) → length (joined numbers rs) ≡ rowSize * length rs
 joined-length [] = refl
 joined-length (r ∷ rs) = omega (arith, joined-length rs)
+
+-- where there is room for each number, all rows are counted
+pub counted-fits : (w : Answer (List Row)) (rs : List Row) (room : ℕ) → w ≡ done rs → rowSize * length rs ≤ room → counted w room ≡ done (length rs)
+unfolding counted
+counted-fits w rs room e h = rw e (all-keep (under room (rowSize * length rs) 2 ∷ []) (done (length rs)) (h, tt))
 
 -- `&mut l[0..0]`, no place to store, comes back as nothing before the rest
 pub lent-none : (l out : List ℕ) → length l ≡ 0 → l ++ out ≡ out

@@ -37,7 +37,7 @@ use Rattle.body_items.proofs.ItemLaws.{walk-same}
 use Rattle.nested.specs.declared.kinds.Kind.{Kind}
 use Rattle.nested.specs.declared.kinds.Kind.the-variants.{Plain, Packet, Send}
 use Rattle.nested.specs.Nested.{maxDepth, levels, opensAs, held, Row, rowOf, onto, inOrder, messageBy, listed, nested, rowBytes, rowSize, numbers, numbersIn, counted, stored, heldRows, endsAt, Walked}
-use Rattle.nested.proofs.RowLaws.{joined-length, lent-none}
+use Rattle.nested.proofs.RowLaws.{joined-length, counted-fits, lent-none}
 use Rattle.nested.proofs.Order.{onto-none, onto-onto, in-order-one}
 use Rattle.nested.proofs.Few.{inside, sent-inside, weight, weight-all, body-held, few}
 
@@ -343,11 +343,7 @@ module _ (s out : List ℕ) where
         fits = omega (arith, many, ap length gone)
 
         enough : done (length (all .them)) ≡ counted (nested s) (length out)
-        unfolding counted
-        enough =
-            let k = fits in
-            let y : done (length (all .them)) ≡ judged (under (length out) (rowSize * length (all .them)) 2 ∷ []) (done (length (all .them))) = search rules in
-            rw (all .found) y
+        enough = sym (counted-fits (nested s) (all .them) (length out) (all .found) fits)
 
         pub nested-found : paperCount y ≡ counted (nested s) (length out)
         unfolding nested

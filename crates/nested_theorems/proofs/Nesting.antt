@@ -9,8 +9,8 @@ use lib.Dec.{eqb}
 use borrow.Author.Tests.{eqb-true}
 use Rattle.wire.specs.Choice.{pick}
 use Rattle.wire.specs.Parts.{part}
-use Rattle.wire.specs.Answers.{Answer, done, refused, andThen, under}
-use Rattle.wire.proofs.Rules.{never, all-keep, Went, then-were}
+use Rattle.wire.specs.Answers.{Answer, done, refused, andThen}
+use Rattle.wire.proofs.Rules.{never}
 use Rattle.message_read.specs.declared.MessageRequest.{MessageRequest}
 use Rattle.message_read.specs.Reads.{readMessage}
 use Rattle.body_read.specs.Reads.{readBody}
@@ -19,7 +19,8 @@ use Rattle.nested.specs.declared.kinds.Kind.{Kind}
 use Rattle.nested.specs.declared.kinds.Kind.the-variants.{Plain, Packet, Send}
 use Rattle.nested.specs.Nested.{maxDepth, levels, packetService, messageRouter, sendService, connectionManager, pathTo, sameBytes, kindOf, opensAs, held, Row, rowOf, onto, inOrder, messageBy, listed, nested, maxRows, rowSize, counted}
 use Rattle.nested.proofs.KindLaws.{same-true}
-use Rattle.nested.proofs.Order.{onto-none, onto-onto}
+use Rattle.nested.proofs.Order.{onto-none, onto-onto, Apart, apart, OneLevel, one-level}
+use Rattle.nested.proofs.RowLaws.{counted-fits}
 use Rattle.nested.proofs.Few.{most-rows}
 
 -- ---- by the levels that are left
@@ -151,27 +152,18 @@ in-order-between : (d : ℕ) (f : List ℕ → Answer (List Row)) → ((x : List
 unfolding inOrder
 in-order-between d f b [] rs h = let e : [] ≡ rs = cc in rw (← e) tt
 in-order-between d f b (x ∷ xs) rs h =
-    let w : Went (f x) (λ rs. onto rs (inOrder f xs)) rs = then-were (f x) _ rs h in
-    let v : Went (inOrder f xs) (λ more. done (w .found ++ more)) rs = then-were (inOrder f xs) _ rs (w .then) in
-    let z : done (w .found ++ v .found) ≡ done rs = v .then in
-    let e : w .found ++ v .found ≡ rs = cc in
-    rw (← e) (between-append d (w .found) (v .found) (b x (w .found) (w .is)) (in-order-between d f b xs (v .found) (v .is)))
+    let a : Apart f x xs rs = apart f x xs rs h in
+    rw (← a .all) (between-append d (a .first) (a .rest) (b x (a .first) (a .first-is)) (in-order-between d f b xs (a .rest) (a .rest-is)))
 
 pub depth-between : (n : ℕ) (s : List ℕ) (rs : List Row) → listed n s ≡ done rs → Between (levels - n) rs
-unfolding listed messageBy
+unfolding listed
 depth-between zero s rs h = never h
 depth-between (suc left) s rs h =
-    let w : Went (readMessage s) _ rs = then-were (readMessage s) _ rs h in
-    let m : MessageRequest = w .found in
-    let v : Went _ (λ more. done ((rowOf (maxDepth - left) m ∷ []) ++ more)) rs = then-were _ _ rs (w .then) in
-    let u : Went (held (opensAs s m) (part s (m .«data_start») (m .«data_len»))) (inOrder (λ x. listed left x)) (v .found) = then-were _ _ (v .found) (v .is) in
-    let e : done ((rowOf (maxDepth - left) m ∷ []) ++ v .found) ≡ done rs = v .then in
-    let z : (rowOf (maxDepth - left) m ∷ v .found) ≡ rs = cc in
-    let under : Between (levels - suc left) (v .found) =
-    in-order-between (levels - suc left) (λ x. listed left x) (λ x r g. between-less (levels - suc left) (levels - left) r (omega arith) (depth-between left x r g)) (u .found) (v .found) (u .then) in
-    rw (← z) ((omega arith, omega arith), under)
+    let o : OneLevel left s rs = one-level left s rs h in
+    let below : (x : List ℕ) (r : List Row) → listed left x ≡ done r → Between (levels - suc left) r
+    = λ x r g. between-less (levels - suc left) (levels - left) r (omega arith) (depth-between left x r g) in
+    rw (← o .all) ((omega arith, omega arith), in-order-between (levels - suc left) (λ x. listed left x) below (o .them) (o .more) (o .more-is))
 
 -- a run with a place for each number of MAX_ROWS rows is never too short
 pub room-for-all : (s : List ℕ) (rs : List Row) (room : ℕ) → rowSize * maxRows ≤ room → nested s ≡ done rs → counted (nested s) room ≡ done (length rs)
-unfolding counted
-room-for-all s rs room h e = rw e (all-keep (under room (rowSize * length rs) 2 ∷ []) (done (length rs)) (omega (arith, most-rows s rs e), tt))
+room-for-all s rs room h e = counted-fits (nested s) rs room e (omega (arith, most-rows s rs e))

@@ -11,7 +11,7 @@ use Rattle.epath_segment.specs.Reads.{formOf, lookup, readNarrow, readSeg}
 use Rattle.connection.specs.Limits.{maxRecord}
 use Rattle.connection.specs.declared.UnconnectedSend.{UnconnectedSend}
 use Rattle.connection_words.specs.Requests.{messageBytes, sendBytes}
-use Rattle.request.specs.Reads.{messageEnd}
+use Rattle.connection_words.proofs.Lengths.{send-length}
 use Rattle.request_theorems.proofs.Routes.{Route}
 use Rattle.request_theorems.proofs.RoundTrip.{messageParts, MessageBack, message-read-of-written, SendFits, SendBack, send-read-of-written}
 use Rattle.body_encode.specs.Bodies.{bodyOf}
@@ -46,13 +46,12 @@ packet-reads-back left xs f small =
 pub sendOf : UnconnectedSend → List ℕ → List ℕ → List ℕ
 sendOf u message route = messageBytes sendService (pathTo connectionManager) (sendBytes u message route)
 
-pub send-reads-back : (left : ℕ) (u : UnconnectedSend) (message route : List ℕ) → SendFits u → Route route → messageEnd (length message) + 2 + length route ≤ maxRecord
-    → 6 + length (sendBytes u message route) ≤ maxRecord
+pub send-reads-back : (left : ℕ) (u : UnconnectedSend) (message route : List ℕ) → SendFits u → Route route → 6 + length (sendBytes u message route) ≤ maxRecord
     → listed (suc left) (sendOf u message route) ≡ onto (rowOf (maxDepth - left) (messageParts sendService (pathTo connectionManager) (sendBytes u message route)) ∷ []) (listed left message)
 unfolding sendOf listed messageBy held
-send-reads-back left u message route f r fits small =
+send-reads-back left u message route f r small =
     let t : List ℕ = sendBytes u message route in
     let b : MessageBack sendService (pathTo connectionManager) t = message-read-of-written sendService (pathTo connectionManager) t route-to-manager small in
     let k : kindOf sendService (part (messageBytes sendService (pathTo connectionManager) (sendBytes u message route)) 2 4) ≡ Send = opens-send _ _ (record { service-is = refl; path-is = b .path-is }) in
-    let w : SendBack u message route = send-read-of-written u message route f r fits in
+    let w : SendBack u message route = send-read-of-written u message route f r (omega (arith, send-length u message route)) in
     rw (b .read, k, b .data-is, w .read, w .message-is) (ap (onto (rowOf (maxDepth - left) (messageParts sendService (pathTo connectionManager) t) ∷ [])) (in-order-one (λ x. listed left x) message))
