@@ -1,0 +1,109 @@
+-- Laws of answers as numbers, and of filled runs. Assumes nothing.
+use Prim.Native.Nat.{ℕ, _+_, _-_, _≤_, _<_}
+use mathlib.Core.Path.{_≡_, refl, sym, ap, _∙_, subst}
+use mathlib.Core.List.{List}
+use native.Mathlib.Nat.{zero-add}
+use native.Mathlib.Omega.{arith}
+use lib.ListN.{length, getD, set}
+use lib.Seq.{sets}
+use mir.Val.{Fits}
+use mir.Syntax.{w64}
+use Rattle.wire.specs.Refusals.{number}
+use Rattle.wire.specs.Answers.{Answer, done, refused, paperSize, paperCount, withRoom, written}
+use Rattle.wire.specs.declared.Wrote.{Wrote}
+use Rattle.wire.specs.declared.Wrote.the-variants.{Size, Refused as NotWritten}
+use Rattle.wire.specs.declared.Counted.{Counted}
+use Rattle.wire.specs.declared.Counted.the-variants.{Count, Refused as NotCounted}
+use Rattle.wire.proofs.Rules.{rules}
+use Rattle.wire.proofs.Answers.{room-kept}
+use Rattle.wire.proofs.Stores.{Copying, copy-first, copy-more, copy-ends, run-whole, sets-overlay}
+use Rattle.c_answers.specs.Codes.{end, code, filled, numbers, Told}
+use Rattle.wire.specs.declared.Refusal.{Refusal}
+use Rattle.wire.specs.declared.Refusal.the-variants.{Short, Room, Limit, Code, Form, Words, Offset, Leftover, Depth, Envelope, Outside}
+
+pub number-known : (e : Refusal) → (1 ≤ number e) × (number e ≤ 11)
+number-known Short = (omega arith, omega arith)
+number-known Room = (omega arith, omega arith)
+number-known Limit = (omega arith, omega arith)
+number-known Code = (omega arith, omega arith)
+number-known Form = (omega arith, omega arith)
+number-known Words = (omega arith, omega arith)
+number-known Offset = (omega arith, omega arith)
+number-known Leftover = (omega arith, omega arith)
+number-known Depth = (omega arith, omega arith)
+number-known Envelope = (omega arith, omega arith)
+number-known Outside = (omega arith, omega arith)
+
+-- ---- an answer as a number
+
+pub refusal-code : (e : Refusal) (n : ℕ) → n ≡ number e → end - 1 - n + 1 ≡ code (refused (number e))
+refusal-code e n h = omega (arith, number-known e .0, number-known e .1)
+
+pub refusal-fits : (e : Refusal) (n : ℕ) → n ≡ number e → Fits w64 (end - 1 - n + 1)
+refusal-fits e n h = record { fits = omega (arith, number-known e .0, number-known e .1) }
+
+pub size-done : (w : Wrote) (n : ℕ) → w ≡ Size n → n ≡ code (paperSize w)
+size-done w n h = sym (ap (λ (x : Wrote). code (paperSize x)) h)
+
+pub size-refused : (w : Wrote) (e : Refusal) (r : ℕ) → w ≡ NotWritten e → r ≡ code (refused (number e)) → r ≡ code (paperSize w)
+size-refused w e r h f = f ∙ sym (ap (λ (x : Wrote). code (paperSize x)) h)
+
+pub count-done : (w : Counted) (n : ℕ) → w ≡ Count n → n ≡ code (paperCount w)
+count-done w n h = sym (ap (λ (x : Counted). code (paperCount x)) h)
+
+pub count-refused : (w : Counted) (e : Refusal) (r : ℕ) → w ≡ NotCounted e → r ≡ code (refused (number e)) → r ≡ code (paperCount w)
+count-refused w e r h f = f ∙ sym (ap (λ (x : Counted). code (paperCount x)) h)
+
+pub ruleset answer-laws = (refusal-code, refusal-fits, size-done, size-refused, count-done, count-refused)
+
+-- ---- the loop that fills a run
+pub copy-next : (old src : List ℕ) (n : ℕ) (out : List ℕ) (i : ℕ) → Copying old 0 src n out i → i < n → n ≤ length src
+    → Copying old 0 src n (set out i (getD src i 0)) (i + 1)
+copy-next old src n out i w h g = subst (λ (k : ℕ). Copying old 0 src n (set out k (getD src i 0)) (i + 1)) (zero-add i) (copy-more old 0 src n out i w h g)
+
+pub ruleset front-laws = (copy-next, copy-first, copy-ends, run-whole)
+
+-- ---- a run is filled where it has room
+module _ (src old : List ℕ) where
+  pub fill-full : (r : ℕ) → length old < length src → r ≡ code (refused 2) → r ≡ code (withRoom (done (length src)) (length old))
+  fill-full r l e = let z : refused 2 ≡ withRoom (done (length src)) (length old) = search rules in e ∙ ap code z
+
+  pub fill-kept : length old < length src → old ≡ written (withRoom (done (length src)) (length old)) src old
+  fill-kept l = let z : refused 2 ≡ withRoom (done (length src)) (length old) = search rules in ap (λ (x : Answer ℕ). written x src old) z
+
+  pub fill-size : length src ≤ length old → length src ≡ code (withRoom (done (length src)) (length old))
+  fill-size l = ap code (sym (room-kept (done (length src)) (length old) (length src) refl l))
+
+  pub fill-stored : (new : List ℕ) → length src ≤ length old → new ≡ sets old 0 src → new ≡ written (withRoom (done (length src)) (length old)) src old
+  fill-stored new l e =
+      e
+      ∙ sets-overlay old src l
+      ∙ ap (λ (x : Answer ℕ). written x src old) (sym (room-kept (done (length src)) (length old) (length src) refl l))
+
+pub ruleset fill-laws = (fill-full, fill-kept, fill-size, fill-stored)
+
+-- ---- the ends of a function for C that hands on what another answers
+
+-- a reader that answers a: how many numbers it fills, or why not
+module _ (a : Answer (List ℕ)) (old : List ℕ) where
+  pub read-refused : (k r : ℕ) → a ≡ refused k → r ≡ code (refused k) → r ≡ code (withRoom (filled a) (length old))
+  read-refused k r h e = e ∙ sym (ap (λ (x : Answer (List ℕ)). code (withRoom (filled x) (length old))) h)
+
+  pub read-kept : (k : ℕ) → a ≡ refused k → old ≡ written (withRoom (filled a) (length old)) (numbers a) old
+  read-kept k h = sym (ap (λ (x : Answer (List ℕ)). written (withRoom (filled x) (length old)) (numbers x) old) h)
+
+  pub read-answer : (src : List ℕ) (r : ℕ) → a ≡ done src → r ≡ code (withRoom (done (length src)) (length old)) → r ≡ code (withRoom (filled a) (length old))
+  read-answer src r h e = e ∙ sym (ap (λ (x : Answer (List ℕ)). code (withRoom (filled x) (length old))) h)
+
+  pub read-stored : (src new : List ℕ) → a ≡ done src → new ≡ written (withRoom (done (length src)) (length old)) src old
+      → new ≡ written (withRoom (filled a) (length old)) (numbers a) old
+  read-stored src new h e = e ∙ sym (ap (λ (x : Answer (List ℕ)). written (withRoom (filled x) (length old)) (numbers x) old) h)
+
+pub ruleset read-laws = (read-refused, read-kept, read-answer, read-stored)
+
+-- answers that are told apart have numbers of their own
+pub told-apart : (x y : Answer ℕ) → Told x → Told y → code x ≡ code y → x ≡ y
+told-apart (done m) (done n) a b h = ap done h
+told-apart (done m) (refused k) a b h = absurd (omega (arith, b .0, b .1))
+told-apart (refused k) (done m) a b h = absurd (omega (arith, a .0, a .1))
+told-apart (refused j) (refused k) a b h = ap refused (omega (arith, a .0, a .1, b .0, b .1))

@@ -1,0 +1,29 @@
+-- An answer as one number of 64 bits, for C. Assumes nothing: these are definitions.
+use Prim.Native.Nat.{ℕ, _+_, _-_, _≤_, _<_}
+use mathlib.Core.List.{List, []}
+use lib.ListN.{length}
+use Rattle.wire.specs.Answers.{Answer, done, refused}
+
+-- 2 to the 64, where the numbers end
+abbrev pub end : ℕ
+end = 18446744073709551616
+
+-- what was asked for as it is; a refusal as its number below the end, which is that number with a minus sign in two's complement
+abbrev pub code : Answer ℕ → ℕ
+code (done n) = n
+code (refused k) = end - k
+
+-- ---- what a reader answers that fills a run of numbers: how many, and which
+
+abbrev pub filled : Answer (List ℕ) → Answer ℕ
+filled (done l) = done (length l)
+filled (refused k) = refused k
+
+abbrev pub numbers : Answer (List ℕ) → List ℕ
+numbers (done l) = l
+numbers (refused k) = []
+
+-- ---- the answers that are told apart: a size below the half of all numbers, and document 01's eleven refusals
+abbrev pub Told : Answer ℕ → Type 0
+Told (done n) = n < 9223372036854775808
+Told (refused k) = (1 ≤ k) × (k ≤ 11)
