@@ -15,9 +15,9 @@ use Rattle.wire.specs.declared.Wrote.the-variants.{Size, Refused as NotWritten}
 use Rattle.wire.specs.declared.Counted.{Counted}
 use Rattle.wire.specs.declared.Counted.the-variants.{Count, Refused as NotCounted}
 use Rattle.wire.proofs.Rules.{rules}
-use Rattle.wire.proofs.Answers.{room-kept}
+use Rattle.wire.proofs.Answers.{room-kept, room-was}
 use Rattle.wire.proofs.Stores.{Copying, copy-first, copy-more, copy-ends, run-whole, sets-overlay}
-use Rattle.c_answers.specs.Codes.{end, code, filled, numbers, Told}
+use Rattle.c_answers.specs.Codes.{end, half, code, filled, numbers, Told}
 use Rattle.wire.specs.declared.Refusal.{Refusal}
 use Rattle.wire.specs.declared.Refusal.the-variants.{Short, Room, Limit, Code, Form, Words, Offset, Leftover, Depth, Envelope, Outside}
 
@@ -107,3 +107,17 @@ told-apart (done m) (done n) a b h = ap done h
 told-apart (done m) (refused k) a b h = absurd (omega (arith, b .0, b .1))
 told-apart (refused k) (done m) a b h = absurd (omega (arith, a .0, a .1))
 told-apart (refused j) (refused k) a b h = ap refused (omega (arith, a .0, a .1, b .0, b .1))
+
+-- what a writer answers is told apart, as long as it was lent less than half of all that can be numbered
+pub wrote-told : (w : Wrote) (y : Answer ℕ) (room : ℕ) → paperSize w ≡ withRoom y room → room < half → Told (withRoom y room)
+wrote-told (Size n) y room h l =
+    let f : (y ≡ done n) × (n ≤ room) = room-was y room n (sym h) in
+    let g : n ≤ room = f .1 in
+    let t : n < half = omega arith in
+    subst Told h t
+wrote-told (NotWritten e) y room h l = subst Told h (number-known e)
+
+-- so is a count below that half
+pub counted-told : (c : Counted) → ((n : ℕ) → c ≡ Count n → n < half) → Told (paperCount c)
+counted-told (Count n) f = f n refl
+counted-told (NotCounted e) f = number-known e

@@ -8,6 +8,10 @@ use Rattle.wire.specs.Answers.{Answer, done, refused}
 abbrev pub end : ℕ
 end = 18446744073709551616
 
+-- 2 to the 63, where the numbers end that a signed reader takes for positive
+abbrev pub half : ℕ
+half = 9223372036854775808
+
 -- what was asked for as it is; a refusal as its number below the end, which is that number with a minus sign in two's complement
 abbrev pub code : Answer ℕ → ℕ
 code (done n) = n
@@ -23,7 +27,7 @@ abbrev pub numbers : Answer (List ℕ) → List ℕ
 numbers (done l) = l
 numbers (refused k) = []
 
--- ---- the answers that are told apart: a size below the half of all numbers, and document 01's eleven refusals
+-- ---- the answers that are told apart: a size below that half, and document 01's eleven refusals
 abbrev pub Told : Answer ℕ → Type 0
-Told (done n) = n < 9223372036854775808
+Told (done n) = n < half
 Told (refused k) = (1 ≤ k) × (k ≤ 11)

@@ -1,0 +1,22 @@
+#!/bin/sh
+# Builds what C and Rust link, from proved crates:
+#   target/staticlib/libbarkcushion.a       the whole codec
+#   target/staticlib/libbarkcushion_path.a  the path part alone
+# sh tools/archives.sh, from anywhere. Needs rt and ar. rt writes an archive of the functions of one crate; here those of several become one.
+set -eu
+cd "$(dirname "$0")/.."
+parts='c_paths c_requests c_forwards c_forward_words c_replies c_reply_writes c_bodies c_nested'
+lib=target/staticlib
+for part in $parts; do
+    grep -q "^$part:" crates.txt || continue
+    rt staticlib "$part" >"/tmp/barkcushion-$part.log" 2>&1 || { cat "/tmp/barkcushion-$part.log" >&2; exit 1; }
+done
+cp "$lib/libc_paths.a" "$lib/libbarkcushion_path.a"
+{
+    echo "create $lib/libbarkcushion.a"
+    for part in $parts; do [ ! -f "$lib/lib$part.a" ] || echo "addlib $lib/lib$part.a"; done
+    echo save
+    echo end
+} | ar -M
+ranlib "$lib/libbarkcushion.a" "$lib/libbarkcushion_path.a"
+ls -l "$lib/libbarkcushion.a" "$lib/libbarkcushion_path.a"
