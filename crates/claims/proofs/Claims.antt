@@ -100,6 +100,11 @@ use Rattle.nested.proofs.read_nested
 use Rattle.nested.proofs.Exact as Nested
 use Rattle.dump_text.proofs.write_dump
 use Rattle.dump_text.proofs.Exact as DumpText
+use Rattle.c_answers.proofs.refusal_answer
+use Rattle.c_answers.proofs.size_answer
+use Rattle.c_answers.proofs.count_answer
+use Rattle.c_answers.proofs.fill
+use Rattle.c_answers.proofs.Exact as CAnswers
 
 pub record Claims : Type 2 where
   -- wire
@@ -199,6 +204,11 @@ pub record Claims : Type 2 where
   pub read-nested : Exact read_nested.ended (λ _. read_nested.clauses)
   -- dump_text
   pub write-dump : Exact write_dump.ended (λ _. write_dump.clauses)
+  -- c_answers
+  pub refusal-answer : Exact refusal_answer.ended (λ _. refusal_answer.clauses)
+  pub size-answer : Exact size_answer.ended (λ _. size_answer.clauses)
+  pub count-answer : Exact count_answer.ended (λ _. count_answer.clauses)
+  pub fill : Exact fill.ended (λ _. fill.clauses)
 
 pub claims : Claims
 claims =
@@ -269,4 +279,8 @@ claims =
       join-bodies = Body.join-bodies-exact;
       read-nested = Nested.read-nested-exact;
       write-dump = DumpText.write-dump-exact;
+      refusal-answer = CAnswers.refusal-answer-exact;
+      size-answer = CAnswers.size-answer-exact;
+      count-answer = CAnswers.count-answer-exact;
+      fill = CAnswers.fill-exact;
     }
