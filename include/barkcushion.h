@@ -276,6 +276,16 @@ int64_t bark_reply_item(const uint8_t *s, size_t len, size_t index, size_t *fiel
 /* The same for a walk, as bark_walk_item. */
 int64_t bark_walk_reply(const uint8_t *s, size_t len, size_t items, size_t index, size_t *fields, size_t count);
 
+enum bark_reply_row {
+    BARK_REPLY_ROW_REFUSED = 0, /* the number of the refusal of that item's reply, 0 if it is good */
+    BARK_REPLY_ROW_REPLY = 1,   /* BARK_REPLY numbers; all 0 where it is refused */
+    BARK_REPLY_ROW = 7          /* numbers of a row */
+};
+
+/* The replies in all items in one call, a row of seven numbers each: how many items. A refused item is told in its row and touches no other.
+ * Refused: as bark_read_body, then ROOM where count, of numbers, is less than 7 for each item. */
+int64_t bark_read_replies(const uint8_t *s, size_t len, size_t *rows, size_t count);
+
 /* Writes the body of the first's items and then the second's. Refused: the first's own, the second's own, LIMIT, ROOM. */
 int64_t bark_join_bodies(const uint8_t *first, size_t first_len, const uint8_t *second, size_t second_len, uint8_t *out, size_t out_len);
 

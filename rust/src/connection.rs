@@ -12,6 +12,7 @@ pub enum Form {
 }
 
 impl Form {
+    #[inline]
     pub(crate) fn is_large(self) -> bool {
         self == Form::Large
     }
@@ -117,11 +118,13 @@ pub struct Parameters {
 
 impl Parameters {
     /// The word that a Forward Open has. Refused: `Limit` a size over 511 in a small one.
+    #[inline]
     pub fn encode(&self, form: Form) -> Result<u32> {
         sys::encode_parameters(form.is_large(), self).map(|word| word as u32)
     }
 
     /// The parameters in a word. Refused: `Form` a reserved bit, `Code` type 3.
+    #[inline]
     pub fn decode(form: Form, word: u32) -> Result<Self> {
         let f = sys::decode_parameters(form.is_large(), word)?;
         Ok(Parameters {
@@ -168,12 +171,14 @@ pub struct Transport {
 
 impl Transport {
     /// The byte that a Forward Open has. No value of this type is refused.
+    #[inline]
     pub fn encode(&self) -> Result<u8> {
         let server = self.direction == Direction::Server;
         sys::encode_transport(server, self.trigger as u8, self.class as u8).map(|byte| byte as u8)
     }
 
     /// The transport in a byte. Refused: `Code` trigger 3 to 7, class 7 to 15.
+    #[inline]
     pub fn decode(byte: u8) -> Result<Self> {
         let f = sys::decode_transport(byte)?;
         Ok(Transport {
@@ -256,12 +261,14 @@ impl<'a> ForwardOpen<'a> {
     /// assert_eq!(bytes[26..30], [0xF8, 1, 0, 0x44]); // parameters
     /// # Ok::<(), barkcushion::Error>(())
     /// ```
+    #[inline]
     pub fn new(form: Form, connection_serial_number: u16, path: &'a [u8]) -> Self {
         let default = sys::default_forward_open(form.is_large(), connection_serial_number)
             .and_then(|f| ForwardOpen::of_fields(form, &f, path));
         default.expect("the default record is never refused")
     }
 
+    #[inline]
     fn of_fields(form: Form, f: &[usize; 15], path: &'a [u8]) -> Result<Self> {
         Ok(ForwardOpen {
             form,
@@ -284,6 +291,7 @@ impl<'a> ForwardOpen<'a> {
 
     /// Writes the record at the front of `out`, and answers the written bytes.
     /// Refused: `Limit` a path over 254 bytes, the path's own, `Limit` a size over 511 in a small one, `Room`.
+    #[inline]
     pub fn write<'o>(&self, out: &'o mut [u8]) -> Result<&'o [u8]> {
         match (self.o_t.encode(self.form), self.t_o.encode(self.form)) {
             (Ok(o_t), Ok(t_o)) => sys::write_forward_open(self, [o_t, t_o], self.transport.encode()?, out),
@@ -299,6 +307,7 @@ impl<'a> ForwardOpen<'a> {
 
     /// Reads a record of the form that the caller names. Refused: `Limit`, `Short`, `Form`, `Code`, the path's own,
     /// `Leftover`.
+    #[inline]
     pub fn read(form: Form, s: &'a [u8]) -> Result<Self> {
         let f = sys::read_forward_open(form.is_large(), s)?;
         ForwardOpen::of_fields(form, &f, part(s, f[13], f[14]))
@@ -342,11 +351,13 @@ pub struct ForwardClose<'a> {
 impl<'a> ForwardClose<'a> {
     /// Writes the record at the front of `out`, and answers the written bytes.
     /// Refused: `Limit` a path over 254 bytes, the path's own, `Room`.
+    #[inline]
     pub fn write<'o>(&self, out: &'o mut [u8]) -> Result<&'o [u8]> {
         sys::write_forward_close(self, out)
     }
 
     /// Reads the record. Refused: `Limit`, `Short`, `Form`, the path's own, `Leftover`.
+    #[inline]
     pub fn read(s: &'a [u8]) -> Result<Self> {
         let f = sys::read_forward_close(s)?;
         Ok(ForwardClose {

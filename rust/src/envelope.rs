@@ -31,6 +31,7 @@ pub enum Envelope<'a> {
 
 impl<'a> Envelope<'a> {
     /// Reads an envelope. Refused: `Short`, `Envelope`, `Leftover`.
+    #[inline]
     pub fn read(s: &'a [u8]) -> Result<Self> {
         let f = sys::read_envelope(s)?;
         let data = part(s, f[2], f[3]);
@@ -41,6 +42,7 @@ impl<'a> Envelope<'a> {
     }
 
     /// The data, connected or not.
+    #[inline]
     pub fn data(&self) -> &'a [u8] {
         match *self {
             Envelope::Unconnected { data } | Envelope::Connected { data, .. } => data,

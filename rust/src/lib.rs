@@ -13,7 +13,7 @@ mod reply;
 #[allow(unsafe_code)]
 mod sys;
 
-pub use body::{join_bodies, write_body, Body, BodyBuilder, Items, Replies};
+pub use body::{join_bodies, read_replies, write_body, Body, BodyBuilder, Items, Replies, ReplyRows};
 pub use connection::{
     ConnectionType, Direction, Form, ForwardClose, ForwardOpen, Parameters, Priority, Transport, TransportClass,
     TriggerType,
@@ -42,7 +42,11 @@ pub const MAX_ROWS: usize = 16384;
 /// Numbers of a row, of a path's as of a nested message's.
 pub const ROW: usize = 4;
 
+/// Numbers of a row of [`read_replies`].
+pub const REPLY_ROW: usize = 7;
+
 /// A part of the input, as a reader names it.
+#[inline]
 fn part(s: &[u8], start: usize, len: usize) -> &[u8] {
     &s[start..][..len]
 }

@@ -26,11 +26,13 @@ pub struct Message<'a> {
 impl<'a> Message<'a> {
     /// Writes the message at the front of `out`, and answers the written bytes.
     /// Refused: `Limit` a path over 254 bytes, the path's own, `Limit` over 65,535 bytes, `Room`.
+    #[inline]
     pub fn write<'o>(&self, out: &'o mut [u8]) -> Result<&'o [u8]> {
         sys::write_message(self, out)
     }
 
     /// Reads a message; what follows its path is data. Refused: `Limit`, `Short`, the path's own.
+    #[inline]
     pub fn read(s: &'a [u8]) -> Result<Self> {
         let f = sys::read_message(s)?;
         Ok(Message { service: f[0] as u8, path: part(s, f[1], f[2]), data: part(s, f[3], f[4]) })
@@ -62,11 +64,13 @@ pub struct UnconnectedSend<'a> {
 
 impl<'a> UnconnectedSend<'a> {
     /// Writes the record at the front of `out`, and answers the written bytes. Refused: as [`Message::write`].
+    #[inline]
     pub fn write<'o>(&self, out: &'o mut [u8]) -> Result<&'o [u8]> {
         sys::write_unconnected_send(self, out)
     }
 
     /// Reads the record. Refused: `Limit`, `Short`, `Form`, the path's own, `Leftover`.
+    #[inline]
     pub fn read(s: &'a [u8]) -> Result<Self> {
         let f = sys::read_unconnected_send(s)?;
         Ok(UnconnectedSend {

@@ -18,6 +18,7 @@ pub struct Row {
 }
 
 impl fmt::Display for Row {
+    #[inline]
     fn fmt(&self, f: &mut fmt::Formatter<'_>) -> fmt::Result {
         write!(f, "{} {:02X} {} {}", self.depth, self.service, self.path_bytes, self.data_bytes)
     }
@@ -41,6 +42,7 @@ impl fmt::Display for Row {
 /// assert_eq!(lines, ["0 0A 4 22", "1 0E 6 0", "1 0E 6 0"]);
 /// # Ok::<(), barkcushion::Error>(())
 /// ```
+#[inline]
 pub fn read_nested<'r>(s: &[u8], numbers: &'r mut [u16]) -> Result<Rows<'r>> {
     let count = sys::read_nested(s, numbers)?;
     Ok(Rows { numbers: &numbers[..ROW * count] })
@@ -55,12 +57,14 @@ pub struct Rows<'r> {
 impl Iterator for Rows<'_> {
     type Item = Row;
 
+    #[inline]
     fn next(&mut self) -> Option<Row> {
         let (&[depth, service, path_bytes, data_bytes], rest) = self.numbers.split_first_chunk::<ROW>()?;
         self.numbers = rest;
         Some(Row { depth: depth as u8, service: service as u8, path_bytes, data_bytes })
     }
 
+    #[inline]
     fn size_hint(&self) -> (usize, Option<usize>) {
         let left = self.numbers.len() / ROW;
         (left, Some(left))

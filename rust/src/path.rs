@@ -28,6 +28,7 @@ pub enum Segment<'a> {
 
 impl<'a> Segment<'a> {
     /// The kind and the number of a row, and the bytes that it shows to.
+    #[inline]
     fn parts(self) -> (u32, u32, &'a [u8]) {
         match self {
             Segment::Symbol(name) => (0, 0, name),
@@ -40,6 +41,7 @@ impl<'a> Segment<'a> {
     }
 
     /// The segment of a row that a reader or a builder made.
+    #[inline]
     fn of_row(&[kind, number, start, len]: &[u32; ROW], pool: &'a [u8]) -> Self {
         let bytes = crate::part(pool, start as usize, len as usize);
         match kind {
@@ -69,6 +71,7 @@ impl<'a> Segment<'a> {
 /// assert_eq!(write_path(&[Segment::Class(6)], &mut out[..1]), Err(Error::Room));
 /// # Ok::<(), Error>(())
 /// ```
+#[inline]
 pub fn write_path<'o>(segments: &[Segment<'_>], out: &'o mut [u8]) -> Result<&'o [u8]> {
     PathBuilder::new().fill(segments)?.write(out)
 }
@@ -79,6 +82,7 @@ pub fn write_path<'o>(segments: &[Segment<'_>], out: &'o mut [u8]) -> Result<&'o
 /// use barkcushion::{path_size, Segment};
 /// assert_eq!(path_size(&[Segment::Class(2), Segment::Instance(256)]), Ok(6));
 /// ```
+#[inline]
 pub fn path_size(segments: &[Segment<'_>]) -> Result<usize> {
     PathBuilder::new().fill(segments)?.size()
 }
@@ -113,6 +117,7 @@ impl PathBuilder {
     }
 
     /// Takes all segments away.
+    #[inline]
     pub fn clear(&mut self) {
         self.rows.clear();
         self.pool.clear();
@@ -133,6 +138,7 @@ impl PathBuilder {
     }
 
     /// Has these segments and no others. Where one is refused, as `push` does, it has none.
+    #[inline]
     pub fn fill(&mut self, segments: &[Segment<'_>]) -> Result<&mut Self> {
         self.clear();
         for segment in segments {
@@ -145,38 +151,45 @@ impl PathBuilder {
     }
 
     /// How many segments it has.
+    #[inline]
     pub fn len(&self) -> usize {
         self.rows.as_slice().len() / ROW
     }
 
     /// Whether it has none.
+    #[inline]
     pub fn is_empty(&self) -> bool {
         self.len() == 0
     }
 
     /// Its segments, first to last.
+    #[inline]
     pub fn segments(&self) -> Segments<'_, '_> {
         Segments { rows: self.rows.as_slice(), pool: self.pool.as_slice() }
     }
 
     /// How many bytes [`PathBuilder::write`] writes.
+    #[inline]
     pub fn size(&self) -> Result<usize> {
         rows_size(self.rows.as_slice(), self.pool.as_slice())
     }
 
     /// Writes the path at the front of `out`, and answers the written bytes. Refused: `Room`.
+    #[inline]
     pub fn write<'o>(&self, out: &'o mut [u8]) -> Result<&'o [u8]> {
         write_rows(self.rows.as_slice(), self.pool.as_slice(), out)
     }
 }
 
 impl Default for PathBuilder {
+    #[inline]
     fn default() -> Self {
         PathBuilder::new()
     }
 }
 
 impl fmt::Debug for PathBuilder {
+    #[inline]
     fn fmt(&self, f: &mut fmt::Formatter<'_>) -> fmt::Result {
         f.debug_list().entries(self.segments()).finish()
     }
@@ -197,6 +210,7 @@ impl fmt::Debug for PathBuilder {
 /// assert_eq!(write_rows(&rows, b"the Flow", &mut out), Err(Error::Outside));
 /// # Ok::<(), Error>(())
 /// ```
+#[inline]
 pub fn write_rows<'o>(rows: &[u32], pool: &[u8], out: &'o mut [u8]) -> Result<&'o [u8]> {
     sys::write_path(rows, pool, out)
 }
@@ -206,6 +220,7 @@ pub fn write_rows<'o>(rows: &[u32], pool: &[u8], out: &'o mut [u8]) -> Result<&'
 /// ```
 /// assert_eq!(barkcushion::rows_size(&[5, 15, 0, 1], &[5]), Ok(4));
 /// ```
+#[inline]
 pub fn rows_size(rows: &[u32], pool: &[u8]) -> Result<usize> {
     sys::path_size(rows, pool)
 }
@@ -218,6 +233,7 @@ pub fn rows_size(rows: &[u32], pool: &[u8]) -> Result<usize> {
 /// assert_eq!(check_path(&[0x20, 5]), Ok(1));
 /// assert_eq!(check_path(&[0x21, 0, 5, 0]), Err(Error::Form)); // the same class, in more bytes than it needs
 /// ```
+#[inline]
 pub fn check_path(path: &[u8]) -> Result<usize> {
     sys::check_path(path)
 }
@@ -236,6 +252,7 @@ pub fn check_path(path: &[u8]) -> Result<usize> {
 /// assert_eq!(segments.next(), None);
 /// # Ok::<(), barkcushion::Error>(())
 /// ```
+#[inline]
 pub fn read_path<'r, 'p>(path: &'p [u8], rows: &'r mut [u32]) -> Result<Segments<'r, 'p>> {
     let count = sys::read_path(path, rows)?;
     Ok(Segments { rows: &rows[..ROW * count], pool: path })
@@ -250,6 +267,7 @@ pub struct Segments<'r, 'p> {
 
 impl<'r> Segments<'r, '_> {
     /// The rows of the segments that are still to come, as [`write_rows`] takes them with the path as their pool.
+    #[inline]
     pub fn rows(&self) -> &'r [u32] {
         self.rows
     }
@@ -258,12 +276,14 @@ impl<'r> Segments<'r, '_> {
 impl<'p> Iterator for Segments<'_, 'p> {
     type Item = Segment<'p>;
 
+    #[inline]
     fn next(&mut self) -> Option<Segment<'p>> {
         let (row, rest) = self.rows.split_first_chunk()?;
         self.rows = rest;
         Some(Segment::of_row(row, self.pool))
     }
 
+    #[inline]
     fn size_hint(&self) -> (usize, Option<usize>) {
         let left = self.rows.len() / ROW;
         (left, Some(left))

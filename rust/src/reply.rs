@@ -13,15 +13,18 @@ pub struct Status {
 
 impl Status {
     /// Whether the request was served.
+    #[inline]
     pub const fn is_success(self) -> bool {
         self.general == 0
     }
 
     /// Whether a Connection Manager's request failed on its way.
+    #[inline]
     pub fn is_routing_error(self) -> bool {
         sys::is_routing_error(self.general, self.extended)
     }
 
+    #[inline]
     fn of_fields(general: usize, words: usize, word: usize) -> Self {
         Status { general: general as u8, extended: (words != 0).then_some(word as u16) }
     }
@@ -50,10 +53,12 @@ pub struct Reply<'a> {
 
 impl<'a> Reply<'a> {
     /// Reads a reply. Refused: `Limit`, `Short`, `Words`.
+    #[inline]
     pub fn read(s: &'a [u8]) -> Result<Self> {
         sys::read_reply(s).map(|f| Reply::of_fields(&f, s))
     }
 
+    #[inline]
     pub(crate) fn of_fields(f: &[usize; 6], s: &'a [u8]) -> Self {
         Reply { service: f[0] as u8, status: Status::of_fields(f[1], f[2], f[3]), data: part(s, f[4], f[5]) }
     }
@@ -86,6 +91,7 @@ pub struct Opened<'a> {
 impl Opened<'_> {
     /// Writes the reply at the front of `out`, and answers the written bytes. Refused: `Limit` or `Form` application
     /// data, `Room`.
+    #[inline]
     pub fn write<'o>(&self, out: &'o mut [u8]) -> Result<&'o [u8]> {
         sys::write_opened(self, out)
     }
@@ -110,6 +116,7 @@ pub struct Closed<'a> {
 impl Closed<'_> {
     /// Writes the reply at the front of `out`, and answers the written bytes. Refused: `Limit` or `Form` application
     /// data, `Room`.
+    #[inline]
     pub fn write<'o>(&self, out: &'o mut [u8]) -> Result<&'o [u8]> {
         sys::write_closed(self, out)
     }
@@ -134,11 +141,13 @@ pub struct Failure {
 
 impl Failure {
     /// Writes the reply at the front of `out`, and answers the written bytes. Refused: `Code` general status 0, `Room`.
+    #[inline]
     pub fn write<'o>(&self, out: &'o mut [u8]) -> Result<&'o [u8]> {
         sys::write_failure(self, out)
     }
 
     /// Of the numbers of either reply, where 6 says that it failed.
+    #[inline]
     fn of_fields(f: &[usize]) -> Self {
         Failure {
             service: f[0] as u8,
@@ -179,11 +188,13 @@ pub enum ForwardOpenReply<'a> {
 
 impl<'a> ForwardOpenReply<'a> {
     /// Reads the reply; its status says whether a failure is a routing error. Refused: `Limit`, `Short`, `Words`.
+    #[inline]
     pub fn read(s: &'a [u8]) -> Result<Self> {
         ForwardOpenReply::read_as(Reply::read(s)?.status.is_routing_error(), s)
     }
 
     /// The same, where the caller says whether a failure is a routing error. A success does not use it.
+    #[inline]
     pub fn read_as(routing: bool, s: &'a [u8]) -> Result<Self> {
         let f = sys::read_forward_open_reply(routing, s)?;
         if f[6] == 0 {
@@ -230,11 +241,13 @@ pub enum ForwardCloseReply<'a> {
 
 impl<'a> ForwardCloseReply<'a> {
     /// Reads the reply; its status says whether a failure is a routing error. Refused: `Limit`, `Short`, `Words`.
+    #[inline]
     pub fn read(s: &'a [u8]) -> Result<Self> {
         ForwardCloseReply::read_as(Reply::read(s)?.status.is_routing_error(), s)
     }
 
     /// The same, where the caller says whether a failure is a routing error. A success does not use it.
+    #[inline]
     pub fn read_as(routing: bool, s: &'a [u8]) -> Result<Self> {
         let f = sys::read_forward_close_reply(routing, s)?;
         if f[6] == 0 {

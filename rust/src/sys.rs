@@ -146,6 +146,7 @@ extern "C" {
     fn bark_read_body(s: *const u8, len: usize) -> i64;
     fn bark_walk_item(s: *const u8, len: usize, items: usize, index: usize, fields: *mut usize, count: usize) -> i64;
     fn bark_walk_reply(s: *const u8, len: usize, items: usize, index: usize, fields: *mut usize, count: usize) -> i64;
+    fn bark_read_replies(s: *const u8, len: usize, rows: *mut usize, count: usize) -> i64;
     fn bark_join_bodies(
         first: *const u8,
         first_len: usize,
@@ -169,7 +170,13 @@ fn answer(n: i64) -> Result<usize> {
 
 #[cold]
 fn refusal(n: i64) -> Error {
-    let number = u8::try_from(n.unsigned_abs()).ok();
+    refused(usize::try_from(n.unsigned_abs()).unwrap_or(0))
+}
+
+/// The refusal with a number.
+#[cold]
+pub(crate) fn refused(n: usize) -> Error {
+    let number = u8::try_from(n).ok();
     // Another number would mean an archive that is not of this header: no answer of it can be trusted.
     number.and_then(Error::from_number).unwrap_or_else(|| panic!("libbarkcushion.a answered {n}"))
 }
@@ -494,6 +501,12 @@ pub(crate) fn walk_item(s: &[u8], items: usize, index: usize) -> Result<[usize; 
 pub(crate) fn walk_reply(s: &[u8], items: usize, index: usize) -> Result<[usize; 6]> {
     // SAFETY: lent slices.
     filled(|fields, count| unsafe { bark_walk_reply(s.as_ptr(), s.len(), items, index, fields, count) })
+}
+
+#[inline]
+pub(crate) fn read_replies(s: &[u8], rows: &mut [usize]) -> Result<usize> {
+    // SAFETY: lent slices.
+    answer(unsafe { bark_read_replies(s.as_ptr(), s.len(), rows.as_mut_ptr(), rows.len()) })
 }
 
 #[inline]

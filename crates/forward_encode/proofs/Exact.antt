@@ -4,6 +4,8 @@ use Rattle.exact.specs.Exact.{Exact, exact, says, same}
 use Rattle.wire.proofs.Answers.{size-one}
 use Rattle.forward_encode.proofs.open.write_forward_open
 use Rattle.forward_encode.proofs.close.write_forward_close
+use Rattle.forward_encode.proofs.over.write_forward_open_over
+use Rattle.forward_encode.proofs.over.write_forward_close_over
 
 pub write-forward-open-exact : Exact write_forward_open.ended (λ _. write_forward_open.clauses)
 write-forward-open-exact = exact (λ w κs a. (tt, λ m. tt)) (λ w κs a g z e. search says) (λ t.
@@ -12,3 +14,11 @@ write-forward-open-exact = exact (λ w κs a. (tt, λ m. tt)) (λ w κs a g z e.
 pub write-forward-close-exact : Exact write_forward_close.ended (λ _. write_forward_close.clauses)
 write-forward-close-exact = exact (λ w κs a. (tt, λ m. tt)) (λ w κs a g z e. search says) (λ t.
     (size-one (t .z) (t .z′) (same (t .said .0) (t .said′ .0)), λ i. (tt, (tt, (tt, (same (t .said .1) (t .said′ .1) i, tt))))))
+
+pub write-forward-open-over-exact : Exact write_forward_open_over.ended (λ _. write_forward_open_over.clauses)
+write-forward-open-over-exact = exact (λ w κs a. (tt, λ m. tt)) (λ w κs a g z e. search says) (λ t.
+    (size-one (t .z) (t .z′) (same (t .said .0) (t .said′ .0)), λ i. (tt, (tt, (same (t .said .1) (t .said′ .1) i, tt)))))
+
+pub write-forward-close-over-exact : Exact write_forward_close_over.ended (λ _. write_forward_close_over.clauses)
+write-forward-close-over-exact = exact (λ w κs a. (tt, λ m. tt)) (λ w κs a g z e. search says) (λ t.
+    (size-one (t .z) (t .z′) (same (t .said .0) (t .said′ .0)), λ i. (tt, (tt, (same (t .said .1) (t .said′ .1) i, tt)))))

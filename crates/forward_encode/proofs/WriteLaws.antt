@@ -4,7 +4,7 @@ use mathlib.Core.Path.{_≡_, refl, sym, ap, _∙_}
 use mathlib.Core.List.{List, [], _∷_, _++_, append-assoc}
 use mathlib.Core.Bool.{Bool, true, false, true≢false}
 use native.Mathlib.Omega.{arith}
-use lib.ListN.{length-append}
+use lib.ListN.{length, length-append}
 use lib.Seq.{sets}
 use mir.Val.{Fits}
 use mir.Syntax.{w16}
@@ -38,14 +38,18 @@ pub close-fields : (c : ForwardCloseRequest) (w : ℕ) (old a0 a1 a2 : List ℕ)
     → a2 ≡ sets old 0 (laid (closeFields c w))
 close-fields c w old a0 a1 a2 e0 e1 e2 = e2 ∙ rw (e1, e0)
 
+-- the fields before any path's bytes
+pub close-laid : (c : ForwardCloseRequest) (path old a b : List ℕ) → a ≡ sets old 12 path → b ≡ sets a 0 (laid (closeFields c (length path / 2)))
+    → b ≡ sets old 0 (closeBytes c path)
+unfolding closeBytes
+close-laid c path old a b s e =
+    e
+    ∙ ap (λ (l : List ℕ). sets l 0 (laid (closeFields c (length path / 2)))) s
+    ∙ sets-ahead old (laid (closeFields c (length path / 2))) path 12 refl
+
 module _ (pool : List ℕ) (p : Path) (old : List ℕ) (n : ℕ) (a : List ℕ) (t : Routed pool p 12 old n a) where
   pub close-put : (c : ForwardCloseRequest) (b : List ℕ) → b ≡ sets a 0 (laid (closeFields c (n / 2))) → b ≡ sets old 0 (closeBytes c (encode (segsOf pool p)))
-  unfolding closeBytes
-  close-put c b e =
-      e
-      ∙ ap (λ (l : List ℕ). sets l 0 (laid (closeFields c (n / 2)))) (t .stored)
-      ∙ sets-ahead old (laid (closeFields c (n / 2))) (encode (segsOf pool p)) 12 refl
-      ∙ rw (t .size)
+  close-put c b e = close-laid c (encode (segsOf pool p)) old a b (t .stored) (e ∙ ap (λ (k : ℕ). sets a 0 (laid (closeFields c (k / 2)))) (t .size))
 
 -- ---- Forward Open
 -- the last store comes first: what it leaves is known, and says what the one before it left
@@ -112,26 +116,32 @@ module _ (o : OpenOptions) (w k b : ℕ) (old a0 a1 a2 : List ℕ) (is : k ≡ p
       ∙ ap (λ (t : List ℕ). sets old 22 (laid x ++ t)) (sym (joined-append bytesOf y z))
       ∙ ap (λ (t : List ℕ). sets old 22 t) (sym (joined-append bytesOf x (y ++ z)))
 
--- before a path, all together
+-- before any path's bytes, all together
+module _ (o : OpenOptions) (base : ℕ) (is : base ≡ openBase (o .«large_open»)) where
+  pub open-laid : (path old a b c : List ℕ) → a ≡ sets old base path → b ≡ sets a 0 (laid (openHead o))
+      → c ≡ sets b 22 (laid (openRest o (length path / 2))) → c ≡ sets old 0 (openBytes o path)
+  unfolding openBytes
+  open-laid path old a b c s e f =
+      let head : List ℕ = laid (openHead o) in
+      let rest : List ℕ = laid (openRest o (length path / 2)) in
+      f
+      ∙ ap (λ (l : List ℕ). sets l 22 rest) e
+      ∙ sets-append a head rest 0
+      ∙ ap (λ (l : List ℕ). sets l 0 (head ++ rest)) s
+      ∙ sets-ahead old (head ++ rest) path base (is ∙ sym (open-front o (length path / 2)))
+      ∙ ap (λ (l : List ℕ). sets old 0 l) (append-assoc head rest path)
+
 module _ (pool : List ℕ) (p : Path) (o : OpenOptions) (base : ℕ) (is : base ≡ openBase (o .«large_open»)) where
   pub open-at : (out : List ℕ) → Ready pool p (openBase (o .«large_open»)) out → Ready pool p base out
   open-at out r = rw is r
 
   pub open-put : (old : List ℕ) (n : ℕ) (a b c : List ℕ) → Routed pool p base old n a → b ≡ sets a 0 (laid (openHead o)) → c ≡ sets b 22 (laid (openRest o (n / 2)))
       → c ≡ sets old 0 (openBytes o (encode (segsOf pool p)))
-  unfolding openBytes
   open-put old n a b c t e f =
-      let path : List ℕ = encode (segsOf pool p) in
-      let head : List ℕ = laid (openHead o) in
-      let rest : List ℕ = laid (openRest o (n / 2)) in
-      f
-      ∙ ap (λ (l : List ℕ). sets l 22 rest) e
-      ∙ sets-append a head rest 0
-      ∙ ap (λ (l : List ℕ). sets l 0 (head ++ rest)) (t .stored)
-      ∙ sets-ahead old (head ++ rest) path base (is ∙ sym (open-front o (n / 2)))
-      ∙ ap (λ (l : List ℕ). sets old 0 l) (append-assoc head rest path)
-      ∙ rw (t .size)
+      open-laid o base is (encode (segsOf pool p)) old a b c (t .stored) e (f ∙ ap (λ (k : ℕ). sets b 22 (laid (openRest o (k / 2)))) (t .size))
 
 pub ruleset close-laws = (close-fields, close-put)
 
 pub ruleset open-laws = (open-ids, open-head, word-never, word-large, word-small, word-cast, direction-put, open-rest, open-at, open-put)
+
+pub ruleset laid-laws = (close-laid, open-laid)

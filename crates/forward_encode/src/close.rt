@@ -19,7 +19,7 @@ ghost use Rattle.forward_sizes.specs.Sizes.{closeSize};
 ghost use Rattle.route.specs.Routes.{Ready};
 
 // What stands before the path.
-fn put_close_fields(c: ForwardCloseRequest, words: u8, out: &mut [u8])
+pub(crate) fn put_close_fields(c: ForwardCloseRequest, words: u8, out: &mut [u8])
     ensures { λ _. ⌜ now (out .exit) ≡ sets (now (out .entry)) 0 (laid (closeFields c words)) ⌝ }
 {
     put_bytes(out, 0, &[c.priority_time_ticks, c.timeout_ticks]);

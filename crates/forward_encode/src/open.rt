@@ -39,7 +39,7 @@ fn parameter_width(large: bool) -> usize
 }
 
 // How many bytes stand before the path.
-fn open_base(large: bool) -> usize
+pub(crate) fn open_base(large: bool) -> usize
     ensures { λ r. ⌜ (r ≡ openBase large) × (r ≤ 40) ⌝ }
 {
     if large {
@@ -91,7 +91,7 @@ fn put_multiplier(multiplier: u8, out: &mut [u8])
 }
 
 // The first 22 bytes.
-fn put_open_head(o: OpenOptions, out: &mut [u8])
+pub(crate) fn put_open_head(o: OpenOptions, out: &mut [u8])
     ensures { λ _. ⌜ now (out .exit) ≡ sets (now (out .entry)) 0 (laid (openHead o)) ⌝ }
 {
     put_open_ids(
@@ -112,7 +112,7 @@ fn put_open_head(o: OpenOptions, out: &mut [u8])
 }
 
 // The rest of what stands before the path.
-fn put_open_rest(o: OpenOptions, words: u8, out: &mut [u8])
+pub(crate) fn put_open_rest(o: OpenOptions, words: u8, out: &mut [u8])
     requires { ⌜ GoodWords o ⌝ }
     ensures { λ _. ⌜ now (out .exit) ≡ sets (now (out .entry)) 22 (laid (openRest o words)) ⌝ }
 {

@@ -17,20 +17,24 @@ use Rattle.connection_words.specs.Requests.{messageBytes, sendHead, sendRest, s
 use Rattle.connection.specs.declared.UnconnectedSend.{UnconnectedSend}
 use Rattle.route.specs.Routes.{Routed}
 
--- ---- message
-module _ (pool : List ℕ) (p : Path) (old : List ℕ) (n : ℕ) (a : List ℕ) (t : Routed pool p 2 old n a) where
-  pub message-put : (service : ℕ) (content b c d : List ℕ) → b ≡ set a 0 service → c ≡ set b 1 (n / 2) → d ≡ sets c (2 + n) content
-      → d ≡ sets old 0 (messageBytes service (encode (segsOf pool p)) content)
+-- ---- message: what stands around a path that was stored
+module _ (old path : List ℕ) (n : ℕ) (a : List ℕ) (size : n ≡ length path) (stored : a ≡ sets old 2 path) where
+  pub message-around : (service : ℕ) (content b c d : List ℕ) → b ≡ set a 0 service → c ≡ set b 1 (n / 2) → d ≡ sets c (2 + n) content
+      → d ≡ sets old 0 (messageBytes service path content)
   unfolding messageBytes
-  message-put service content b c d e f g =
-      let path : List ℕ = encode (segsOf pool p) in
+  message-around service content b c d e f g =
       let front : List ℕ = service ∷ (n / 2) ∷ [] in
-      let h : c ≡ sets old 0 (front ++ path) = f ∙ rw (e, t .stored) (sets-ahead old front path 2 refl) in
+      let h : c ≡ sets old 0 (front ++ path) = f ∙ rw (e, stored) (sets-ahead old front path 2 refl) in
       g
       ∙ ap (λ (l : List ℕ). sets l (2 + n) content) h
-      ∙ ap (λ (k : ℕ). sets (sets old 0 (front ++ path)) k content) (omega (arith, t .size))
+      ∙ ap (λ (k : ℕ). sets (sets old 0 (front ++ path)) k content) (omega arith)
       ∙ sets-append old (front ++ path) content 0
-      ∙ rw (t .size)
+      ∙ rw size
+
+pub message-put : (pool : List ℕ) (p : Path) (old : List ℕ) (n : ℕ) (a : List ℕ) → Routed pool p 2 old n a
+    → (service : ℕ) (content b c d : List ℕ) → b ≡ set a 0 service → c ≡ set b 1 (n / 2) → d ≡ sets c (2 + n) content
+    → d ≡ sets old 0 (messageBytes service (encode (segsOf pool p)) content)
+message-put pool p old n a t = message-around old (encode (segsOf pool p)) n a (t .size) (t .stored)
 
 -- ---- Unconnected Send
 module _ (old : List ℕ) (at n : ℕ) where
@@ -58,15 +62,15 @@ send-rest-put m w old a b e f =
     ∙ ap (λ (k : ℕ). sets (sets old (4 + m) (lowFirst (m % 2) 0)) (4 + m + k) (w ∷ 0 ∷ [])) (sym (low-length (m % 2) 0))
     ∙ sets-append old (lowFirst (m % 2) 0) (w ∷ 0 ∷ []) (4 + m)
 
-module _ (pool : List ℕ) (p : Path) (u : UnconnectedSend) (message old : List ℕ) (n : ℕ) (a b c d : List ℕ)
-    (t : Routed pool p (6 + length message % 2 + length message) old n a)
+module _ (u : UnconnectedSend) (message old : List ℕ) (n : ℕ) (a b c d : List ℕ)
     (e0 : b ≡ sets a 0 (laid (sendHead u (length message)))) (e1 : c ≡ sets b 4 message)
     (e2 : d ≡ sets c (4 + length message) (laid (sendRest (length message) (n / 2)))) where
-  pub send-put : d ≡ sets old 0 (sendBytes u message (encode (segsOf pool p)))
+  -- what stands around a path that was stored
+  pub send-around : (path : List ℕ) → n ≡ length path → a ≡ sets old (6 + length message % 2 + length message) path
+      → d ≡ sets old 0 (sendBytes u message path)
   unfolding sendBytes
-  send-put =
+  send-around path size stored =
       let m : ℕ = length message in
-      let path : List ℕ = encode (segsOf pool p) in
       let head : List ℕ = laid (sendHead u m) in
       let rest : List ℕ = laid (sendRest m (n / 2)) in
       let front : List ℕ = (head ++ message) ++ rest in
@@ -74,9 +78,13 @@ module _ (pool : List ℕ) (p : Path) (u : UnconnectedSend) (message old : List 
       ∙ ap (λ (l : List ℕ). sets l (4 + m) rest) (e1 ∙ ap (λ (l : List ℕ). sets l 4 message) e0 ∙ sets-append a head message 0)
       ∙ ap (λ (k : ℕ). sets (sets a 0 (head ++ message)) k rest) (omega (arith, length-append head message))
       ∙ sets-append a (head ++ message) rest 0
-      ∙ ap (λ (l : List ℕ). sets l 0 front) (t .stored)
+      ∙ ap (λ (l : List ℕ). sets l 0 front) stored
       ∙ sets-ahead old front path (6 + m % 2 + m) (omega (arith, length-append (head ++ message) rest, length-append head message, laid-length (sendRest m (n / 2))))
       ∙ ap (λ (l : List ℕ). sets old 0 l) (append-assoc (head ++ message) rest path ∙ append-assoc head message (rest ++ path))
-      ∙ rw (t .size)
+      ∙ rw size
+
+  pub send-put : (pool : List ℕ) (p : Path) → Routed pool p (6 + length message % 2 + length message) old n a
+      → d ≡ sets old 0 (sendBytes u message (encode (segsOf pool p)))
+  send-put pool p t = send-around (encode (segsOf pool p)) (t .size) (t .stored)
 
 pub ruleset send-laws = (pad-none, pad-one, send-head-put, send-rest-put, send-put)

@@ -33,7 +33,7 @@ fn put_pad(out: &mut [u8], at: usize, n: usize)
 }
 
 // What stands before a message of m bytes.
-fn put_send_head(u: UnconnectedSend, m: usize, out: &mut [u8])
+pub(crate) fn put_send_head(u: UnconnectedSend, m: usize, out: &mut [u8])
     requires { ⌜ m ≤ maxRecord ⌝ }
     ensures { λ _. ⌜ now (out .exit) ≡ sets (now (out .entry)) 0 (laid (sendHead u m)) ⌝ }
 {
@@ -42,7 +42,7 @@ fn put_send_head(u: UnconnectedSend, m: usize, out: &mut [u8])
 }
 
 // What stands between the message and the route.
-fn put_send_rest(m: usize, words: u8, out: &mut [u8])
+pub(crate) fn put_send_rest(m: usize, words: u8, out: &mut [u8])
     requires { ⌜ m ≤ maxRecord ⌝ }
     ensures { λ _. ⌜ now (out .exit) ≡ sets (now (out .entry)) (4 + m) (laid (sendRest m words)) ⌝ }
 {

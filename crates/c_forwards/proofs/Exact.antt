@@ -1,0 +1,28 @@
+-- Each public function takes every argument, and its contract leaves one answer and one content of what is lent.
+-- Assumes nothing.
+use Rattle.exact.specs.Exact.{Exact, exact, says, same}
+use Rattle.c_forwards.proofs.read.bark_read_forward_open
+use Rattle.c_forwards.proofs.read.bark_default_forward_open
+use Rattle.c_forwards.proofs.read.bark_read_forward_close
+use Rattle.c_forwards.proofs.write.bark_write_forward_close
+use Rattle.c_forwards.proofs.write.bark_write_forward_open
+
+pub bark-read-forward-open-exact : Exact bark_read_forward_open.ended (λ _. bark_read_forward_open.clauses)
+bark-read-forward-open-exact = exact (λ w κs a. (tt, λ m. tt)) (λ w κs a g z e. search says) (λ t.
+    (same (t .said .0) (t .said′ .0), λ i. (tt, (tt, (same (t .said .1) (t .said′ .1) i, tt)))))
+
+pub bark-default-forward-open-exact : Exact bark_default_forward_open.ended (λ _. bark_default_forward_open.clauses)
+bark-default-forward-open-exact = exact (λ w κs a. (tt, λ m. tt)) (λ w κs a g z e. search says) (λ t.
+    (same (t .said .0) (t .said′ .0), λ i. (tt, (tt, (same (t .said .1) (t .said′ .1) i, tt)))))
+
+pub bark-read-forward-close-exact : Exact bark_read_forward_close.ended (λ _. bark_read_forward_close.clauses)
+bark-read-forward-close-exact = exact (λ w κs a. (tt, λ m. tt)) (λ w κs a g z e. search says) (λ t.
+    (same (t .said .0) (t .said′ .0), λ i. (tt, (same (t .said .1) (t .said′ .1) i, tt))))
+
+pub bark-write-forward-close-exact : Exact bark_write_forward_close.ended (λ _. bark_write_forward_close.clauses)
+bark-write-forward-close-exact = exact (λ w κs a. (tt, λ m. tt)) (λ w κs a g z e. search says) (λ t.
+    (same (t .said .0) (t .said′ .0), λ i. (tt, (tt, (tt, (tt, (tt, (tt, (same (t .said .1) (t .said′ .1) i, tt)))))))))
+
+pub bark-write-forward-open-exact : Exact bark_write_forward_open.ended (λ _. bark_write_forward_open.clauses)
+bark-write-forward-open-exact = exact (λ w κs a. (tt, λ m. tt)) (λ w κs a g z e. search says) (λ t.
+    (same (t .said .0) (t .said′ .0), λ i. (tt, (tt, (tt, (tt, (tt, (tt, (tt, (tt, (tt, (tt, (tt, (tt, (tt, (tt, (tt, (same (t .said .1) (t .said′ .1) i, tt))))))))))))))))))

@@ -1,0 +1,64 @@
+-- Forward Open and Forward Close as numbers, for C, at the places of include/barkcushion.h. Assumes nothing: these are definitions.
+use Prim.Native.Nat.{ℕ}
+use mathlib.Core.Bool.{Bool}
+use mathlib.Core.List.{List, [], _∷_, _++_}
+use Rattle.wire.specs.Answers.{Answer, done, refused, andThen}
+use Rattle.connection.specs.Defaults.{defaultOptions}
+use Rattle.connection.specs.declared.ConnectionParameters.{ConnectionParameters}
+use Rattle.connection.specs.declared.OpenOptions.{OpenOptions}
+use Rattle.connection_words.specs.Fields.{parameterWord, classTrigger}
+use Rattle.forward_read.specs.Reads.{Opened, opened, readOpen, Closed, closed, readClose}
+
+-- ---- Forward Open
+
+abbrev pub orZero : Answer ℕ → ℕ
+orZero (done w) = w
+orZero (refused k) = 0
+
+-- parameters as their word; 0 where a word can't hold them
+abbrev pub wordNumber : Bool → ConnectionParameters → ℕ
+wordNumber large p = orZero (parameterWord large p)
+
+-- the fields that are written, in the order of the wire
+abbrev pub openNumbers : Bool → OpenOptions → List ℕ
+openNumbers large o =
+    o .«priority_tick_time»
+    ∷ o .«timeout_ticks»
+    ∷ o .«o_t_connection_id»
+    ∷ o .«t_o_connection_id»
+    ∷ o .«connection_serial_number»
+    ∷ o .«vendor_id»
+    ∷ o .«originator_serial_number»
+    ∷ o .«timeout_multiplier»
+    ∷ o .«o_t_rpi»
+    ∷ wordNumber large (o .«o_t_params»)
+    ∷ o .«t_o_rpi»
+    ∷ wordNumber large (o .«t_o_params»)
+    ∷ classTrigger o
+    ∷ []
+
+-- and behind them where the path starts, and how many bytes it has
+abbrev pub openedNumbers : Bool → Opened → List ℕ
+openedNumbers large (opened o start len) = openNumbers large o ++ (start ∷ len ∷ [])
+
+abbrev pub openFields : Bool → List ℕ → Answer (List ℕ)
+openFields large s = andThen (readOpen large s) (λ x. done (openedNumbers large x))
+
+abbrev pub defaultNumbers : Bool → ℕ → List ℕ
+defaultNumbers large serial = openNumbers large (defaultOptions serial)
+
+-- ---- Forward Close
+
+abbrev pub closedNumbers : Closed → List ℕ
+closedNumbers (closed c start len) =
+    c .«priority_time_ticks»
+    ∷ c .«timeout_ticks»
+    ∷ c .«connection_serial_number»
+    ∷ c .«originator_vendor_id»
+    ∷ c .«originator_serial_number»
+    ∷ start
+    ∷ len
+    ∷ []
+
+abbrev pub closeFields : List ℕ → Answer (List ℕ)
+closeFields s = andThen (readClose s) (λ x. done (closedNumbers x))

@@ -1,0 +1,5 @@
+pub mod RowLaws
+pub mod PathLaws
+pub mod ReadLaws
+pub mod Theorems
+pub mod Exact

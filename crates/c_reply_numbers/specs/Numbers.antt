@@ -1,0 +1,27 @@
+-- A reply's header as a run of numbers, at the places of include/barkcushion.h. Assumes nothing: these are definitions.
+use Prim.Native.Nat.{ℕ}
+use mathlib.Core.List.{List, [], _∷_}
+use Rattle.reply_header.specs.declared.ExtendedStatus.{ExtendedStatus}
+use Rattle.reply_header.specs.declared.ExtendedStatus.the-variants.{Absent, Word}
+use Rattle.reply_header.specs.declared.MessageReply.{MessageReply}
+
+-- words of extended status
+abbrev pub wordsOf : ExtendedStatus → ℕ
+wordsOf Absent = 0
+wordsOf (Word w) = 1
+
+-- that word, 0 if there is none
+abbrev pub wordOf : ExtendedStatus → ℕ
+wordOf Absent = 0
+wordOf (Word w) = w
+
+-- service, general status, words of extended status and that word, start and length of the data
+abbrev pub replyNumbers : MessageReply → List ℕ
+replyNumbers m =
+    m .«reply_service»
+    ∷ m .status .general
+    ∷ wordsOf (m .status .extended)
+    ∷ wordOf (m .status .extended)
+    ∷ m .«data_start»
+    ∷ m .«data_len»
+    ∷ []
