@@ -5,7 +5,7 @@ use barkcushion::*;
 /// The longest path: as many far ports with the longest link, or symbols, as a list has.
 const SCRATCH: usize = 258 * MAX_SEGMENTS;
 
-/// What the archive answers to a case, asked through each door of the crate that can say it: one, and for a path two.
+/// What the archive answers to a case, asked through each door of the crate that can say it: one, or for some two.
 /// No answer where no function is exported: a segment by itself (01, 03, 06), the setter of the first byte (15).
 ///
 /// One order of judging is not the program's. There a request is given its segments, and the path's limit of 254 bytes
@@ -20,6 +20,7 @@ pub fn ask(case: &[u8]) -> Vec<Vec<u8>> {
         0x02 => path_size_of(c),
         0x04 => write_path_of(c),
         0x05 => read_path_of(c),
+        0x33 => reply_item_of(c),
         op => vec![match op {
             0x07 => read(check_path(c.bytes()).map(|n| accepted().count(n))),
             0x10..=0x14 => write_request(op, c, scratch),
@@ -34,7 +35,7 @@ pub fn ask(case: &[u8]) -> Vec<Vec<u8>> {
                 }))
             }
             0x27 => read(Ok(accepted().u8(c.status().is_routing_error().into()))),
-            0x30..=0x34 => body(op, c),
+            0x30..=0x32 | 0x34 => body(op, c),
             0x40 => {
                 let mut numbers = vec![0xA5A5; ROW * MAX_ROWS];
                 read(read_nested(c.bytes(), &mut numbers).map(|rows| {
@@ -251,13 +252,19 @@ fn body(op: u8, c: &mut Case) -> Vec<u8> {
             let index = c.place();
             read(Body::read(s).and_then(|body| body.item(index)).map(|item| accepted().part(s, item)))
         }
-        0x33 => {
-            let index = c.place();
-            read(Body::read(s).and_then(|body| body.reply(index)).map(|r| header(s, &r)))
-        }
         _ => {
             let second = c.bytes();
             written(c.room(), |out| join_bodies(s, second, out))
         }
     }
+}
+
+/// By its index, and among all replies in one call, which has no refusal for an index that is not there: 11 is ours.
+fn reply_item_of(c: &mut Case) -> Vec<Vec<u8>> {
+    let (s, index) = (c.bytes(), c.place());
+    let body = Body::read(s);
+    let mut rows = vec![usize::MAX; REPLY_ROW * body.map_or(0, |body| body.len())];
+    let one = body.and_then(|body| body.reply(index));
+    let among = read_replies(s, &mut rows).and_then(|mut all| all.nth(index).unwrap_or(Err(Error::Outside)));
+    [one, among].map(|reply| read(reply.map(|r| header(s, &r)))).to_vec()
 }

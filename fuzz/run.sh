@@ -1,0 +1,50 @@
+#!/bin/sh
+# Builds the driver over target/staticlib/libbarkcushion.a and runs it; README.md says what is checked. sh fuzz/run.sh [EXECUTIONS], from anywhere.
+# Half of the executions are libFuzzer's, half are drawn by the driver's own generator; all are, where the compiler has no libFuzzer.
+# The last line is `N executions, 0 crashes`; the status is 0 only then. From outside: BARK_ARCHIVE another archive, BARK_SEED another seed (1),
+# CC another compiler (clang, or cc where there is none), FUZZ_EXTRA more to link.
+set -eu
+here=$(cd "$(dirname "$0")" && pwd)
+total=${1:-20000000}
+seed=${BARK_SEED:-1}
+archive=${BARK_ARCHIVE:-$here/../target/staticlib/libbarkcushion.a}
+out=${TMPDIR:-/tmp}/barkcushion-fuzz
+cc=${CC:-$(command -v clang || echo cc)}
+[ -f "$archive" ] || { echo "no archive $archive: sh tools/archives.sh makes it" >&2; exit 2; }
+mkdir -p "$out"
+cd "$out"
+rm -rf corpus crash-* timeout-* oom-* slow-unit-*
+mkdir corpus
+
+build() {
+    program=$1
+    shift
+    # shellcheck disable=SC2086
+    "$cc" -std=gnu11 -O2 -g -Wall -Wextra -I"$here/../include" "$@" "$here/fuzz.c" ${FUZZ_EXTRA:-} "$archive" -o "$program"
+}
+
+checks='-fsanitize=address,undefined -fno-sanitize-recover=all'
+echo 'int main(void) { return 0; }' >probe.c
+# shellcheck disable=SC2086
+"$cc" $checks probe.c -o probe 2>/dev/null && ./probe || { checks=; echo "no address checks in $cc: pages that fault are all there is"; }
+
+done=0
+crashes=0
+echo 'int LLVMFuzzerTestOneInput(const unsigned char *s, unsigned long n); int LLVMFuzzerTestOneInput(const unsigned char *s, unsigned long n) { (void)s; (void)n; return 0; }' >probe.c
+if "$cc" -fsanitize=fuzzer probe.c -o probe 2>/dev/null; then
+    # shellcheck disable=SC2086
+    build guided $checks -fsanitize=fuzzer -fno-sanitize-coverage=trace-cmp
+    ./guided -runs=$((total / 2)) -seed="$seed" -max_len=512 -detect_leaks=0 -print_final_stats=1 corpus "$here/seeds" >guided.log 2>&1 ||
+        { crashes=1; grep -v '^#' guided.log | head -n 40; }
+    done=$(sed -n 's/^stat::number_of_executed_units: //p' guided.log)
+    sed -n '/^calls/,$p' guided.log
+    echo "libFuzzer: ${done:=0} executions, $(sed -n 's/^stat::average_exec_per_sec: *//p' guided.log) a second"
+fi
+
+# shellcheck disable=SC2086
+build drawn $checks -DSTANDALONE
+./drawn "$here"/seeds/*
+./drawn $((total - done)) "$seed" >drawn.log || true
+set -- $(tail -n 1 drawn.log)
+echo "$((done + ${1:-0})) executions, $((crashes + ${3:-1})) crashes"
+[ $((crashes + ${3:-1})) = 0 ]
