@@ -13,7 +13,8 @@ enum {
     ARENA = 1 << 20, /* bytes of a place that is lent from, and of what faults before and behind it */
     CANARY = 64,
     MOST = 72000,     /* bytes of the longest input that is made */
-    MOST_ITEMS = 33000
+    MOST_ITEMS = 33000,
+    MOST_SEGMENTS = 140
 };
 
 /* ---- the input */
@@ -209,10 +210,10 @@ static const struct bark_open_options *options(const struct call *c)
     return &o;
 }
 
-#define X(name, first, second, out, each, given)                                                                                               \
+#define X(name, first, second, out, each, given)                                                                                              \
     static int64_t call_##name(const struct call *c)                                                                                          \
     {                                                                                                                                         \
-        return bark_##name given;                                                                                                              \
+        return bark_##name given;                                                                                                             \
     }
 FUNCTIONS
 #undef X
@@ -578,7 +579,7 @@ static size_t make_segments(uint32_t *rows, size_t pool)
         rows[BARK_SEGMENT_KIND] = wild && kind >= 240 ? kind - 234u : kind % 6;
         rows[BARK_SEGMENT_NUMBER] = number < 128 ? edges[number % 14] : number < 192 ? take() : number < 240 ? take16() : take32();
         rows[BARK_SEGMENT_START] = take16() % (pool + 1);
-        rows[BARK_SEGMENT_LENGTH] = length < 192 ? length % 8 : length + (wild ? 3 : 0);
+        rows[BARK_SEGMENT_LENGTH] = length < 160 ? length % 8u : length < 240 ? 248u + length % (wild ? 10 : 8) : length / 2u;
         if (rows[BARK_SEGMENT_KIND] % 5 == 0) {
             if (wild && length % 16 == 15)
                 rows[BARK_SEGMENT_START] = length & 16 ? pool + 1 : edges[kind / 16] + 255;
@@ -614,16 +615,18 @@ static struct part make_pool(void)
     return part(bytes, n);
 }
 
+/* A path; those segments that would be refused are left out. */
 static void make_path(struct heap *h)
 {
-    static uint8_t path[MOST];
-    uint32_t rows[140 * BARK_SEGMENT];
+    uint8_t bytes[300];
+    uint32_t rows[MOST_SEGMENTS * BARK_SEGMENT];
     struct part pool = make_pool();
-    int64_t size = law_write_path(rows, make_segments(rows, pool.n), pool.at, pool.n, path);
-    if (size < 0 || size > 600)
-        add_all(h, (const uint8_t *)"\x20\x06\x24\x01", 4);
-    else
-        add_all(h, path, size);
+    size_t k, count = make_segments(rows, pool.n) / BARK_SEGMENT;
+    for (k = 0; k < count; k++) {
+        int64_t size = law_write_path(rows + k * BARK_SEGMENT, BARK_SEGMENT, pool.at, pool.n, bytes);
+        if (size > 0)
+            add_all(h, bytes, size);
+    }
 }
 
 /* A path behind its size byte, with a reserved byte before it where padded */
@@ -636,8 +639,8 @@ static void make_route(struct heap *h, size_t padded)
         add_all(&path, (const uint8_t *)"\x20\x04\x24\x01\x30\x07", b % 4 * 2);
     else
         make_path(&path);
-    if (path.n > 510)
-        path.n = 254;
+    if (path.n > 256)
+        path.n = 254; /* most often cut in a segment */
     add(h, path.n / 2, 1 + padded);
     add_all(h, path.at, path.n);
 }
@@ -819,6 +822,8 @@ static void damage(struct heap *h)
         h->n -= h->n < 1 + b / 16 % 8u ? h->n : 1 + b / 16 % 8u;
     } else if (b % 8 == 2) {
         h->n = at;
+        if (at > 0 && b & 16)
+            h->at[at - 1] = take();
     } else if (b % 8 == 3 || (b % 8 == 4 && h->n == h->most)) {
         memmove(h->at + at, h->at + at + 1, --h->n - at);
     } else if (b % 8 == 4) {
@@ -867,7 +872,7 @@ static struct part data(size_t rest)
 /* ---- the tests: a function is asked, and what follows from its answer is asked too */
 
 static uint8_t again[2 * MOST];
-static uint32_t segments[140 * BARK_SEGMENT], segments_again[140 * BARK_SEGMENT];
+static uint32_t segments[MOST_SEGMENTS * BARK_SEGMENT], segments_again[MOST_SEGMENTS * BARK_SEGMENT];
 
 /* A path that was written reads back as the same segments, and these write it again. */
 static void test_write_path(void)
@@ -964,8 +969,8 @@ static void test_encode_parameters(void)
 {
     uint8_t b = take(), type = take(), priority = take();
     bool large = b & 1;
-    size_t back[BARK_PARAMETERS], f[BARK_PARAMETERS] = {b >> 1 & 1, type < 240 ? type % 3 : type, b >> 2 & 1,
-                                                        priority < 240 ? priority % 4 : priority, 0};
+    size_t back[BARK_PARAMETERS], f[BARK_PARAMETERS] = {b >> 1 & 1, type < 240 ? type % 4 : type, b >> 2 & 1,
+                                                        priority < 240 ? priority % 5 : priority, 0};
     int64_t word;
     f[BARK_PARAMETERS_SIZE] = b & 8 ? take16() : 508 + take() % 8;
     word = ask_encode_parameters(large, f);
@@ -1115,9 +1120,9 @@ static void test_read_reply(void)
 
 static void test_is_routing_error(void)
 {
-    static const uint16_t words[6] = {0x0204, 0x0311, 0x0312, 0x0315, 0x0205, 0x0313};
+    static const uint16_t words[10] = {0x0204, 0x0311, 0x0312, 0x0315, 0x0203, 0x0205, 0x0310, 0x0313, 0x0314, 0x0316};
     uint8_t general = take(), b = take();
-    uint16_t word = b < 224 ? words[b / 2 % 6] : take16();
+    uint16_t word = b < 224 ? words[b / 2 % 10] : take16();
     struct call c = {.n = {general < 224 ? general % 6 : general, b & 1, word}};
     ask(F_is_routing_error, c, law_is_routing_error(c.n[0], b & 1, word), NULL);
 }

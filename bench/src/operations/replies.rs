@@ -3,7 +3,7 @@ use super::bodies::body;
 use super::{reader, Entry, Operation};
 use crate::place;
 use crate::theirs::{dec, Kind, Lean, Nobody, Text};
-use barkcushion::{Body, Reply};
+use barkcushion::{read_replies, Body, Reply, REPLY_ROW};
 use bytes::Bytes;
 use rseip_cip::codec::decode::message_reply::decode_service_and_status;
 use rseip_cip::service::CommonServices;
@@ -16,10 +16,12 @@ pub const ALL: &[Entry] = &[
     ("header-plain", "reply header, success (crate: leanest)", || header::<Kind>(&SUCCESS)),
     ("header-text", "reply header, extended word (crate: error with text)", || header::<Text>(&EXTENDED)),
     ("header-plain-text", "reply header, success (crate: error with text)", || header::<Text>(&SUCCESS)),
-    ("walk-3", "reply walk of 3 (crate: leanest)", || walk::<Kind>(3, false)),
-    ("walk-100", "reply walk of 100 (crate: leanest)", || walk::<Kind>(100, false)),
-    ("walk-3-text", "reply walk of 3 (crate: error with text, input shared)", || walk::<Text>(3, true)),
-    ("walk-100-text", "reply walk of 100 (crate: error with text, input shared)", || walk::<Text>(100, true)),
+    ("walk-3", "reply walk of 3, one by one (crate: leanest)", || walk::<Kind>(3, false, false)),
+    ("walk-100", "reply walk of 100, one by one (crate: leanest)", || walk::<Kind>(100, false, false)),
+    ("walk-3-once", "reply walk of 3, ours in one call (crate: leanest)", || walk::<Kind>(3, false, true)),
+    ("walk-100-once", "reply walk of 100, ours in one call (crate: leanest)", || walk::<Kind>(100, false, true)),
+    ("walk-3-text", "reply walk of 3, one by one (crate: error with text, input shared)", || walk::<Text>(3, true, false)),
+    ("walk-100-text", "reply walk of 100, one by one (crate: error with text, input shared)", || walk::<Text>(100, true, false)),
 ];
 
 const EXTENDED: [u8; 6] = [0x8E, 0, 8, 1, 3, 0];
@@ -49,21 +51,27 @@ fn replies(n: usize) -> Vec<u8> {
 }
 
 /// How many replies, and the sum of their numbers.
-fn walk<E: Error + Debug>(n: usize, shared: bool) -> Operation {
+fn sum_of<'a>(replies: impl Iterator<Item = barkcushion::Result<Reply<'a>>>) -> (u32, u32) {
+    let (mut items, mut sum) = (0u32, 0u32);
+    for reply in replies {
+        let reply = reply.unwrap();
+        assert!(reply.status.is_success());
+        sum = sum.wrapping_add(u32::from_le_bytes(reply.data.try_into().unwrap()));
+        items += 1;
+    }
+    (items, sum)
+}
+
+/// Ours goes from item to item, or takes all in one call into a lent run of rows; the crate has the first way alone.
+fn walk<E: Error + Debug>(n: usize, shared: bool, once: bool) -> Operation {
     let input = replies(n);
     let s: &'static [u8] = place::input(&input);
     let bytes = if shared { Bytes::from(input.clone()) } else { Bytes::from_static(s) };
     let other = bytes.clone();
-    let ours = move || {
-        let body = Body::read(black_box(s)).unwrap();
-        let (mut items, mut sum) = (0u32, 0u32);
-        for reply in body.replies() {
-            let reply = reply.unwrap();
-            assert!(reply.status.is_success());
-            sum = sum.wrapping_add(u32::from_le_bytes(reply.data.try_into().unwrap()));
-            items += 1;
-        }
-        (items, sum)
+    let mut rows = vec![0; n * REPLY_ROW];
+    let ours = move || match once {
+        false => sum_of(Body::read(black_box(s)).unwrap().replies()),
+        true => sum_of(read_replies(black_box(s), black_box(&mut rows)).unwrap()),
     };
     let theirs = move || {
         let _ = &other;
