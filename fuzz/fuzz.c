@@ -526,18 +526,18 @@ static int64_t ask_nested(struct part s, uint16_t *rows)
 enum kind { PATH, MESSAGE, SEND, OPEN, CLOSE, REPLY, OPEN_REPLY, CLOSE_REPLY, ENVELOPE, BODY, REPLIES };
 
 /* Bytes that are added to, as far as they fit */
-struct heap {
+struct pile {
     uint8_t *at;
     size_t n, most;
 };
 
-static void add(struct heap *h, uint64_t number, size_t width)
+static void add(struct pile *h, uint64_t number, size_t width)
 {
     for (; width > 0 && h->n < h->most; width--, number >>= 8)
         h->at[h->n++] = (uint8_t)number;
 }
 
-static void add_all(struct heap *h, const uint8_t *s, size_t n)
+static void add_all(struct pile *h, const uint8_t *s, size_t n)
 {
     if (n > h->most - h->n)
         n = h->most - h->n;
@@ -547,7 +547,7 @@ static void add_all(struct heap *h, const uint8_t *s, size_t n)
 }
 
 /* So many bytes: the first from the input, the rest noise */
-static void add_some(struct heap *h, size_t n)
+static void add_some(struct pile *h, size_t n)
 {
     for (; n > 0 && left > 0; n--)
         add(h, take(), 1);
@@ -616,7 +616,7 @@ static struct part make_pool(void)
 }
 
 /* A path; those segments that would be refused are left out. */
-static void make_path(struct heap *h)
+static void make_path(struct pile *h)
 {
     uint8_t bytes[300];
     uint32_t rows[MOST_SEGMENTS * BARK_SEGMENT];
@@ -630,10 +630,10 @@ static void make_path(struct heap *h)
 }
 
 /* A path behind its size byte, with a reserved byte before it where padded */
-static void make_route(struct heap *h, size_t padded)
+static void make_route(struct pile *h, size_t padded)
 {
     static uint8_t bytes[700];
-    struct heap path = {bytes, 0, sizeof bytes};
+    struct pile path = {bytes, 0, sizeof bytes};
     uint8_t b = take();
     if (b < 64)
         add_all(&path, (const uint8_t *)"\x20\x04\x24\x01\x30\x07", b % 4 * 2);
@@ -645,7 +645,7 @@ static void make_route(struct heap *h, size_t padded)
     add_all(h, path.at, path.n);
 }
 
-static void make_reply(struct heap *h)
+static void make_reply(struct pile *h)
 {
     uint8_t b = take();
     add(h, take(), 1);
@@ -657,9 +657,9 @@ static void make_reply(struct heap *h)
     add_some(h, 2 * b);
 }
 
-static void make_body(struct heap *h, enum kind items, size_t depth);
+static void make_body(struct pile *h, enum kind items, size_t depth);
 
-static void make_message(struct heap *h, size_t depth)
+static void make_message(struct pile *h, size_t depth)
 {
     uint8_t b = take();
     if (depth > 0 && depth < 6 && b % 4 == 1) {
@@ -667,7 +667,7 @@ static void make_message(struct heap *h, size_t depth)
         make_body(h, MESSAGE, depth);
     } else if (depth > 0 && depth < 6 && b % 4 == 2) {
         static uint8_t inner[7][MOST];
-        struct heap m = {inner[depth], 0, MOST};
+        struct pile m = {inner[depth], 0, MOST};
         make_message(&m, depth + 1);
         add_all(h, (const uint8_t *)"\x52\x02\x20\x06\x24\x01", 6);
         add(h, take() % 16, 1);
@@ -687,10 +687,10 @@ static void make_message(struct heap *h, size_t depth)
 }
 
 /* A body: a few items of a kind, or as many small ones as come near the limit */
-static void make_body(struct heap *h, enum kind items, size_t depth)
+static void make_body(struct pile *h, enum kind items, size_t depth)
 {
     static uint8_t stores[7][MOST];
-    struct heap store = {stores[depth], 0, MOST};
+    struct pile store = {stores[depth], 0, MOST};
     uint8_t b = take();
     size_t ends[8], k, count = b % 8, each = 1 + b / 8 % 4, at, begin = h->n;
     if (b >= 252 && depth < 2) {
@@ -736,7 +736,7 @@ static uint8_t make_transport(void)
     return b < 224 ? (b & 0x80) | b / 8 % 3 << 4 | b % 7 : take();
 }
 
-static void make(struct heap *h, enum kind kind, bool flag)
+static void make(struct pile *h, enum kind kind, bool flag)
 {
     size_t k;
     switch (kind) {
@@ -812,7 +812,7 @@ static void make(struct heap *h, enum kind kind, bool flag)
 }
 
 /* Changes something of it: a byte, a bit, its end, or a byte more or less inside. */
-static void damage(struct heap *h)
+static void damage(struct pile *h)
 {
     uint8_t b = take();
     size_t at = h->n == 0 ? 0 : take16() % (b & 8 && h->n > 40 ? 40 : h->n);
@@ -841,7 +841,7 @@ static void damage(struct heap *h)
 static struct part subject(enum kind kind, bool flag, size_t which, bool last)
 {
     static uint8_t bytes[2][MOST];
-    struct heap h = {bytes[which], 0, MOST};
+    struct pile h = {bytes[which], 0, MOST};
     uint8_t b = take();
     if (b % 4 == 0) {
         size_t n = last ? left : left * take() / 255;
@@ -864,7 +864,7 @@ static struct part subject(enum kind kind, bool flag, size_t which, bool last)
 static struct part data(size_t rest)
 {
     static uint8_t bytes[MOST];
-    struct heap h = {bytes, 0, MOST};
+    struct pile h = {bytes, 0, MOST};
     add_some(&h, some(rest));
     return part(h.at, h.n);
 }
@@ -1235,7 +1235,7 @@ static size_t lengths[MOST_ITEMS];
 static void test_write_body(void)
 {
     static uint8_t bytes[MOST];
-    struct heap items = {bytes, 0, MOST};
+    struct pile items = {bytes, 0, MOST};
     size_t f[BARK_ITEM], k, at, count, total = 0;
     uint8_t b = take(), c = take();
     int64_t size;

@@ -5,7 +5,7 @@ use mathlib.Core.List.{List, [], _∷_}
 use mathlib.Core.Logic.{⊎-elim}
 use native.Mathlib.Omega.{arith}
 use native.Mathlib.Numerals.{add-one}
-use lib.ListN.{length}
+use lib.ListN.{length, getD}
 use borrow.Author.Tests.{lt-ltb, le-ltb}
 use Rattle.wire.specs.Refusals.{number}
 use Rattle.wire.specs.Answers.{done, refused, paperCount, under, judged}
@@ -13,7 +13,7 @@ use Rattle.wire.specs.declared.Refusal.{Refusal}
 use Rattle.wire.specs.declared.Counted.{Counted}
 use Rattle.wire.specs.declared.Counted.the-variants.{Count, Refused as NotCounted}
 use Rattle.wire.proofs.Rules.{rules, all-keep, all-were, then-stops, then-goes, Went, then-were}
-use Rattle.wire.proofs.Numbers.{below-or}
+use Rattle.wire.proofs.Numbers.{below-or, value-two}
 use Rattle.connection.specs.Limits.{maxRecord}
 use Rattle.body_encode.specs.Bodies.{tableEnd}
 use Rattle.body_read.specs.Reads.{offsetAt, readBody}
@@ -21,6 +21,12 @@ use Rattle.body_read.proofs.Accepts.{Accepted, accepted}
 use Rattle.body_items.specs.declared.Item.{Item}
 use Rattle.body_items.specs.declared.ItemRead.{ItemRead}
 use Rattle.body_items.specs.Items.{stopAt, itemAt, bodyItem, walkRules, walkItem, paperItem}
+
+-- ---- where an item starts
+pub offset-read : (s : List ℕ) (k r : ℕ) → r ≡ getD s (2 + 2 * k) 0 + 256 * getD s (2 + 2 * k + 1) 0 → r ≡ offsetAt s k
+offset-read s k r e = e ∙ value-two s (2 + 2 * k) (getD s (2 + 2 * k) 0) (getD s (2 + 2 * k + 1) 0) refl refl
+
+pub ruleset offset-laws = (offset-read)
 
 -- ---- where an item ends
 module _ (s : List ℕ) (n k : ℕ) where
@@ -50,14 +56,11 @@ module _ (s : List ℕ) (n k : ℕ) where
     walk-short h = let l : length s < tableEnd n = omega arith in search rules
 
     module _ (h : n < length s / 2) where
-      table : tableEnd n ≤ length s
+      pub table : tableEnd n ≤ length s
       table = omega arith
 
-      pub walk-few : n ≤ maxRecord
-      walk-few = omega arith
-
-      pub walk-index : k < n → k ≤ maxRecord
-      walk-index l = omega (arith, walk-few)
+      pub walk-index : k < n → tableEnd (k + 1) ≤ length s
+      walk-index l = let t = table in omega arith
 
       pub walk-outside : n ≤ k → refused 11 ≡ walkItem s n k
       unfolding walkItem
@@ -104,7 +107,7 @@ module _ (s : List ℕ) (n k : ℕ) where
                 let j : stopAt s n k ≤ length s = omega (arith, stops) in
                 rw (starts, stops) (sym (all-keep (walkRules s n k) (done (itemAt s n k)) (small, (table, (there, (late, (some, (j, tt))))))))
 
-pub ruleset walk-laws = (walk-limit, walk-short, walk-few, walk-index, walk-outside, walk-early, walk-empty, walk-past, walk-found)
+pub ruleset walk-laws = (walk-limit, walk-short, table, walk-index, walk-outside, walk-early, walk-empty, walk-past, walk-found)
 
 -- ---- in a body that was accepted every item lies behind the table, has a byte, and ends inside
 module _ (s : List ℕ) (n : ℕ) (a : Accepted s n) where

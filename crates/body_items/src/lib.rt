@@ -3,11 +3,10 @@
 use body_read::read_body;
 use wire::Counted;
 use wire::Refusal;
-use wire_read::u16_at;
 ghost use mathlib.Core.Path.{_≡_};
-ghost use Prim.Native.Nat.{_≤_, _<_};
+ghost use Prim.Native.Nat.{_+_, _*_, _≤_, _<_};
 ghost use lib.ListN.{length};
-ghost use Rattle.connection.specs.Limits.{maxRecord};
+ghost use Rattle.body_encode.specs.Bodies.{tableEnd};
 ghost use Rattle.body_read.specs.Reads.{offsetAt};
 ghost use Rattle.body_items.specs.Items.{stopAt, walkItem, bodyItem, paperItem};
 
@@ -22,17 +21,25 @@ pub enum ItemRead {
     Refused(Refusal),
 }
 
-// Where an item starts: at its own offset.
+// A number of two bytes.
+fn two_bytes(low: u8, high: u8) -> usize
+    ensures { λ r. ⌜ r ≡ low + 256 * high ⌝ }
+{
+    low as usize + 256 * (high as usize)
+}
+
+// Where an item starts: at its own offset, which the table has.
 fn start_at(s: &[u8], index: usize) -> usize
-    requires { ⌜ index ≤ maxRecord ⌝ }
+    requires { ⌜ tableEnd (index + 1) ≤ length (now s) ⌝ }
     ensures { λ r. ⌜ r ≡ offsetAt (now (s .entry)) index ⌝ }
 {
-    u16_at(s, 2 + 2 * index) as usize
+    let at = 2 + 2 * index;
+    two_bytes(s[at], s[at + 1])
 }
 
 // Where an item ends: at the next one's offset, the last at the end.
 fn stop_at(s: &[u8], count: usize, index: usize) -> usize
-    requires { ⌜ (index < count) × (count ≤ maxRecord) ⌝ }
+    requires { ⌜ (index < count) × (tableEnd count ≤ length (now s)) ⌝ }
     ensures { λ r. ⌜ r ≡ stopAt (now (s .entry)) count index ⌝ }
 {
     if index + 1 < count {
@@ -49,7 +56,7 @@ pub fn walk_item(s: &[u8], count: usize, index: usize) -> ItemRead
     if connection::MAX_RECORD < s.len() {
         return ItemRead::Refused(Refusal::Limit);
     }
-    // that is s.len() < 2 + 2 * count, where that sum may wrap
+    // that is s.len() < 2 + 2 * count, where that sum may wrap; behind it every offset of the table is there
     if s.len() / 2 <= count {
         return ItemRead::Refused(Refusal::Short);
     }

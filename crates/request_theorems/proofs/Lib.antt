@@ -2,3 +2,4 @@ pub mod Routes
 pub mod RoundTrip
 pub mod OpenTrip
 pub mod Theorems
+pub mod OverTheorems
