@@ -70,14 +70,14 @@ module _ (large : Bool) (x y b : ℕ) (v : ParametersRead) (one : paperParameter
 pub ruleset words-laws = (words-first, words-second, words-third, words-are)
 
 -- ---- backwards: what words that were read hold
-parts-were : (large : Bool) (x : ℕ) (p : ConnectionParameters) → readParameters large x ≡ done p → p ≡ wordParts large x
+pub parts-were : (large : Bool) (x : ℕ) (p : ConnectionParameters) → readParameters large x ≡ done p → p ≡ wordParts large x
 unfolding readParameters
 parts-were large x p h =
     let e : done (wordParts large x) ≡ done p = all-were (wordRules large x) (done (wordParts large x)) p h .1 in
     let q : wordParts large x ≡ p = cc in
     sym q
 
-transport-was : (b : ℕ) (t : Transport) → readTransport b ≡ done t → t ≡ transport (directionOf (b / 128)) (triggerOf (b / 16 % 8)) (classOf (b % 16))
+pub transport-was : (b : ℕ) (t : Transport) → readTransport b ≡ done t → t ≡ transport (directionOf (b / 128)) (triggerOf (b / 16 % 8)) (classOf (b % 16))
 unfolding readTransport
 transport-was b t h =
     let k : Transport = transport (directionOf (b / 128)) (triggerOf (b / 16 % 8)) (classOf (b % 16)) in
@@ -86,7 +86,7 @@ transport-was b t h =
     sym q
 
 -- parameters that were read have a word
-word-good : (large : Bool) (x : ℕ) (p : ConnectionParameters) → readParameters large x ≡ done p → parameterWord large p ≡ done (wordOf large p)
+pub word-good : (large : Bool) (x : ℕ) (p : ConnectionParameters) → readParameters large x ≡ done p → parameterWord large p ≡ done (wordOf large p)
 unfolding parameterWord
 word-good large x p h =
     all-keep (over (p .«connection_size») (sizeLimit large) 3 ∷ []) (done (wordOf large p)) (parameters-written-of-read large x p h .size, tt)

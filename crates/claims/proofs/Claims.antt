@@ -53,12 +53,16 @@ use Rattle.forward_sizes.proofs.forward_close_size
 use Rattle.forward_sizes.proofs.Exact as ForwardSizes
 use Rattle.forward_encode.proofs.write_forward_open
 use Rattle.forward_encode.proofs.write_forward_close
+use Rattle.forward_encode.proofs.over.write_forward_open_over
+use Rattle.forward_encode.proofs.over.write_forward_close_over
 use Rattle.forward_encode.proofs.Exact as ForwardEncode
 use Rattle.request_sizes.proofs.message_size
 use Rattle.request_sizes.proofs.unconnected_send_size
 use Rattle.request_sizes.proofs.Exact as RequestSizes
 use Rattle.request_encode.proofs.write_message
 use Rattle.request_encode.proofs.write_unconnected_send
+use Rattle.request_encode.proofs.over.write_message_over
+use Rattle.request_encode.proofs.over.write_unconnected_send_over
 use Rattle.request_encode.proofs.Exact as RequestEncode
 use Rattle.message_read.proofs.read_message
 use Rattle.message_read.proofs.first_byte
@@ -105,6 +109,56 @@ use Rattle.c_answers.proofs.size_answer
 use Rattle.c_answers.proofs.count_answer
 use Rattle.c_answers.proofs.fill
 use Rattle.c_answers.proofs.Exact as CAnswers
+use Rattle.route_written.proofs.written_route
+use Rattle.route_written.proofs.Exact as RouteWritten
+use Rattle.c_paths.proofs.bark_path_size
+use Rattle.c_paths.proofs.bark_write_path
+use Rattle.c_paths.proofs.bark_check_path
+use Rattle.c_paths.proofs.bark_read_path
+use Rattle.c_paths.proofs.Exact as CPaths
+use Rattle.c_requests.proofs.bark_write_message
+use Rattle.c_requests.proofs.bark_read_message
+use Rattle.c_requests.proofs.bark_write_unconnected_send
+use Rattle.c_requests.proofs.bark_read_unconnected_send
+use Rattle.c_requests.proofs.Exact as CRequests
+use Rattle.c_forward_words.proofs.parameters.bark_encode_parameters
+use Rattle.c_forward_words.proofs.parameters.bark_decode_parameters
+use Rattle.c_forward_words.proofs.transport.bark_encode_transport
+use Rattle.c_forward_words.proofs.transport.bark_decode_transport
+use Rattle.c_forward_words.proofs.Exact as CForwardWords
+use Rattle.c_forwards.proofs.read.bark_read_forward_open
+use Rattle.c_forwards.proofs.read.bark_default_forward_open
+use Rattle.c_forwards.proofs.read.bark_read_forward_close
+use Rattle.c_forwards.proofs.write.bark_write_forward_close
+use Rattle.c_forwards.proofs.write.bark_write_forward_open
+use Rattle.c_forwards.proofs.Exact as CForwards
+use Rattle.c_reply_numbers.proofs.reply_numbers
+use Rattle.c_reply_numbers.proofs.Exact as CReplyNumbers
+use Rattle.c_replies.proofs.bark_read_reply
+use Rattle.c_replies.proofs.status_of
+use Rattle.c_replies.proofs.bark_is_routing_error
+use Rattle.c_replies.proofs.bark_read_envelope
+use Rattle.c_replies.proofs.Exact as CReplies
+use Rattle.c_forward_replies.proofs.bark_read_forward_open_reply
+use Rattle.c_forward_replies.proofs.bark_read_forward_close_reply
+use Rattle.c_forward_replies.proofs.Exact as CForwardReplies
+use Rattle.c_reply_writes.proofs.bark_write_forward_open_success
+use Rattle.c_reply_writes.proofs.bark_write_forward_close_success
+use Rattle.c_reply_writes.proofs.bark_write_forward_failure
+use Rattle.c_reply_writes.proofs.Exact as CReplyWrites
+use Rattle.c_bodies.proofs.bark_write_body
+use Rattle.c_bodies.proofs.bark_read_body
+use Rattle.c_bodies.proofs.bark_body_item
+use Rattle.c_bodies.proofs.bark_walk_item
+use Rattle.c_bodies.proofs.bark_join_bodies
+use Rattle.c_bodies.proofs.Exact as CBodies
+use Rattle.c_body_replies.proofs.bark_reply_item
+use Rattle.c_body_replies.proofs.bark_walk_reply
+use Rattle.c_body_replies.proofs.Exact as CBodyReplies
+use Rattle.c_reply_walk.proofs.bark_read_replies
+use Rattle.c_reply_walk.proofs.Exact as CReplyWalk
+use Rattle.c_nested.proofs.bark_read_nested
+use Rattle.c_nested.proofs.Exact as CNested
 
 pub record Claims : Type 2 where
   -- wire
@@ -158,12 +212,16 @@ pub record Claims : Type 2 where
   -- forward_encode
   pub write-forward-open : Exact write_forward_open.ended (λ _. write_forward_open.clauses)
   pub write-forward-close : Exact write_forward_close.ended (λ _. write_forward_close.clauses)
+  pub write-forward-open-over : Exact write_forward_open_over.ended (λ _. write_forward_open_over.clauses)
+  pub write-forward-close-over : Exact write_forward_close_over.ended (λ _. write_forward_close_over.clauses)
   -- request_sizes
   pub message-size : Exact message_size.ended (λ _. message_size.clauses)
   pub unconnected-send-size : Exact unconnected_send_size.ended (λ _. unconnected_send_size.clauses)
   -- request_encode
   pub write-message : Exact write_message.ended (λ _. write_message.clauses)
   pub write-unconnected-send : Exact write_unconnected_send.ended (λ _. write_unconnected_send.clauses)
+  pub write-message-over : Exact write_message_over.ended (λ _. write_message_over.clauses)
+  pub write-unconnected-send-over : Exact write_unconnected_send_over.ended (λ _. write_unconnected_send_over.clauses)
   -- message_read
   pub read-message : Exact read_message.ended (λ _. read_message.clauses)
   pub first-byte : Exact first_byte.ended (λ _. first_byte.clauses)
@@ -209,6 +267,56 @@ pub record Claims : Type 2 where
   pub size-answer : Exact size_answer.ended (λ _. size_answer.clauses)
   pub count-answer : Exact count_answer.ended (λ _. count_answer.clauses)
   pub fill : Exact fill.ended (λ _. fill.clauses)
+  -- route_written
+  pub written-route : Exact written_route.ended (λ _. written_route.clauses)
+  -- c_paths
+  pub bark-path-size : Exact bark_path_size.ended (λ _. bark_path_size.clauses)
+  pub bark-write-path : Exact bark_write_path.ended (λ _. bark_write_path.clauses)
+  pub bark-check-path : Exact bark_check_path.ended (λ _. bark_check_path.clauses)
+  pub bark-read-path : Exact bark_read_path.ended (λ _. bark_read_path.clauses)
+  -- c_requests
+  pub bark-write-message : Exact bark_write_message.ended (λ _. bark_write_message.clauses)
+  pub bark-read-message : Exact bark_read_message.ended (λ _. bark_read_message.clauses)
+  pub bark-write-unconnected-send : Exact bark_write_unconnected_send.ended (λ _. bark_write_unconnected_send.clauses)
+  pub bark-read-unconnected-send : Exact bark_read_unconnected_send.ended (λ _. bark_read_unconnected_send.clauses)
+  -- c_forward_words
+  pub bark-encode-parameters : Exact bark_encode_parameters.ended (λ _. bark_encode_parameters.clauses)
+  pub bark-decode-parameters : Exact bark_decode_parameters.ended (λ _. bark_decode_parameters.clauses)
+  pub bark-encode-transport : Exact bark_encode_transport.ended (λ _. bark_encode_transport.clauses)
+  pub bark-decode-transport : Exact bark_decode_transport.ended (λ _. bark_decode_transport.clauses)
+  -- c_forwards
+  pub bark-read-forward-open : Exact bark_read_forward_open.ended (λ _. bark_read_forward_open.clauses)
+  pub bark-default-forward-open : Exact bark_default_forward_open.ended (λ _. bark_default_forward_open.clauses)
+  pub bark-read-forward-close : Exact bark_read_forward_close.ended (λ _. bark_read_forward_close.clauses)
+  pub bark-write-forward-close : Exact bark_write_forward_close.ended (λ _. bark_write_forward_close.clauses)
+  pub bark-write-forward-open : Exact bark_write_forward_open.ended (λ _. bark_write_forward_open.clauses)
+  -- c_reply_numbers
+  pub reply-numbers : Exact reply_numbers.ended (λ _. reply_numbers.clauses)
+  -- c_replies
+  pub bark-read-reply : Exact bark_read_reply.ended (λ _. bark_read_reply.clauses)
+  pub status-of : Exact status_of.ended (λ _. status_of.clauses)
+  pub bark-is-routing-error : Exact bark_is_routing_error.ended (λ _. bark_is_routing_error.clauses)
+  pub bark-read-envelope : Exact bark_read_envelope.ended (λ _. bark_read_envelope.clauses)
+  -- c_forward_replies
+  pub bark-read-forward-open-reply : Exact bark_read_forward_open_reply.ended (λ _. bark_read_forward_open_reply.clauses)
+  pub bark-read-forward-close-reply : Exact bark_read_forward_close_reply.ended (λ _. bark_read_forward_close_reply.clauses)
+  -- c_reply_writes
+  pub bark-write-forward-open-success : Exact bark_write_forward_open_success.ended (λ _. bark_write_forward_open_success.clauses)
+  pub bark-write-forward-close-success : Exact bark_write_forward_close_success.ended (λ _. bark_write_forward_close_success.clauses)
+  pub bark-write-forward-failure : Exact bark_write_forward_failure.ended (λ _. bark_write_forward_failure.clauses)
+  -- c_bodies
+  pub bark-write-body : Exact bark_write_body.ended (λ _. bark_write_body.clauses)
+  pub bark-read-body : Exact bark_read_body.ended (λ _. bark_read_body.clauses)
+  pub bark-body-item : Exact bark_body_item.ended (λ _. bark_body_item.clauses)
+  pub bark-walk-item : Exact bark_walk_item.ended (λ _. bark_walk_item.clauses)
+  pub bark-join-bodies : Exact bark_join_bodies.ended (λ _. bark_join_bodies.clauses)
+  -- c_body_replies
+  pub bark-reply-item : Exact bark_reply_item.ended (λ _. bark_reply_item.clauses)
+  pub bark-walk-reply : Exact bark_walk_reply.ended (λ _. bark_walk_reply.clauses)
+  -- c_reply_walk
+  pub bark-read-replies : Exact bark_read_replies.ended (λ _. bark_read_replies.clauses)
+  -- c_nested
+  pub bark-read-nested : Exact bark_read_nested.ended (λ _. bark_read_nested.clauses)
 
 pub claims : Claims
 claims =
@@ -249,10 +357,14 @@ claims =
       forward-close-size = ForwardSizes.forward-close-size-exact;
       write-forward-open = ForwardEncode.write-forward-open-exact;
       write-forward-close = ForwardEncode.write-forward-close-exact;
+      write-forward-open-over = ForwardEncode.write-forward-open-over-exact;
+      write-forward-close-over = ForwardEncode.write-forward-close-over-exact;
       message-size = RequestSizes.message-size-exact;
       unconnected-send-size = RequestSizes.unconnected-send-size-exact;
       write-message = RequestEncode.write-message-exact;
       write-unconnected-send = RequestEncode.write-unconnected-send-exact;
+      write-message-over = RequestEncode.write-message-over-exact;
+      write-unconnected-send-over = RequestEncode.write-unconnected-send-over-exact;
       read-message = MessageRead.read-message-exact;
       first-byte = MessageRead.first-byte-exact;
       route-at = MessageRead.route-at-exact;
@@ -283,4 +395,41 @@ claims =
       size-answer = CAnswers.size-answer-exact;
       count-answer = CAnswers.count-answer-exact;
       fill = CAnswers.fill-exact;
+      written-route = RouteWritten.written-route-exact;
+      bark-path-size = CPaths.bark-path-size-exact;
+      bark-write-path = CPaths.bark-write-path-exact;
+      bark-check-path = CPaths.bark-check-path-exact;
+      bark-read-path = CPaths.bark-read-path-exact;
+      bark-write-message = CRequests.bark-write-message-exact;
+      bark-read-message = CRequests.bark-read-message-exact;
+      bark-write-unconnected-send = CRequests.bark-write-unconnected-send-exact;
+      bark-read-unconnected-send = CRequests.bark-read-unconnected-send-exact;
+      bark-encode-parameters = CForwardWords.bark-encode-parameters-exact;
+      bark-decode-parameters = CForwardWords.bark-decode-parameters-exact;
+      bark-encode-transport = CForwardWords.bark-encode-transport-exact;
+      bark-decode-transport = CForwardWords.bark-decode-transport-exact;
+      bark-read-forward-open = CForwards.bark-read-forward-open-exact;
+      bark-default-forward-open = CForwards.bark-default-forward-open-exact;
+      bark-read-forward-close = CForwards.bark-read-forward-close-exact;
+      bark-write-forward-close = CForwards.bark-write-forward-close-exact;
+      bark-write-forward-open = CForwards.bark-write-forward-open-exact;
+      reply-numbers = CReplyNumbers.reply-numbers-exact;
+      bark-read-reply = CReplies.bark-read-reply-exact;
+      status-of = CReplies.status-of-exact;
+      bark-is-routing-error = CReplies.bark-is-routing-error-exact;
+      bark-read-envelope = CReplies.bark-read-envelope-exact;
+      bark-read-forward-open-reply = CForwardReplies.bark-read-forward-open-reply-exact;
+      bark-read-forward-close-reply = CForwardReplies.bark-read-forward-close-reply-exact;
+      bark-write-forward-open-success = CReplyWrites.bark-write-forward-open-success-exact;
+      bark-write-forward-close-success = CReplyWrites.bark-write-forward-close-success-exact;
+      bark-write-forward-failure = CReplyWrites.bark-write-forward-failure-exact;
+      bark-write-body = CBodies.bark-write-body-exact;
+      bark-read-body = CBodies.bark-read-body-exact;
+      bark-body-item = CBodies.bark-body-item-exact;
+      bark-walk-item = CBodies.bark-walk-item-exact;
+      bark-join-bodies = CBodies.bark-join-bodies-exact;
+      bark-reply-item = CBodyReplies.bark-reply-item-exact;
+      bark-walk-reply = CBodyReplies.bark-walk-reply-exact;
+      bark-read-replies = CReplyWalk.bark-read-replies-exact;
+      bark-read-nested = CNested.bark-read-nested-exact;
     }
