@@ -10,10 +10,10 @@
 #include <sys/mman.h>
 
 enum {
-    ARENA = 1 << 20, /* bytes of a place that is lent from, and of what faults before and behind it */
+    ARENA = 1 << 21, /* bytes of a place that is lent from, and of what faults before and behind it */
     CANARY = 64,
     MOST = 72000,     /* bytes of the longest input that is made */
-    MOST_ITEMS = 33000,
+    MOST_ITEMS = 22000, /* no body has more than 21,844 */
     MOST_SEGMENTS = 140
 };
 
@@ -186,6 +186,7 @@ struct call {
     X(walk_item, 1, 0, sizeof(size_t), 1, (IN(0), N(0), N(1), OUT))                                                                           \
     X(reply_item, 1, 0, sizeof(size_t), 1, (IN(0), N(0), OUT))                                                                                \
     X(walk_reply, 1, 0, sizeof(size_t), 1, (IN(0), N(0), N(1), OUT))                                                                          \
+    X(read_replies, 1, 0, sizeof(size_t), BARK_REPLY_ROW, (IN(0), OUT))                                                                       \
     X(join_bodies, 1, 1, 1, 1, (IN(0), IN(1), OUT))                                                                                           \
     X(read_nested, 1, 0, 2, BARK_ROW, (IN(0), OUT))
 
@@ -507,6 +508,12 @@ static int64_t ask_walk_reply(struct part s, size_t items, size_t index, size_t 
     struct call c = {.in = {s.at}, .len = {s.n}, .n = {items, index}};
     size_t item[BARK_ITEM];
     return ask(F_walk_reply, c, law_reply_in(s.at, law_walk_item(s.at, s.n, items, index, item), item, f), f);
+}
+
+static int64_t ask_read_replies(struct part s, size_t *rows)
+{
+    struct call c = {.in = {s.at}, .len = {s.n}};
+    return ask(F_read_replies, c, law_read_replies(s.at, s.n, rows), rows);
 }
 
 static int64_t ask_join(struct part a, struct part b, uint8_t *out)
@@ -1249,7 +1256,7 @@ static void test_write_body(void)
     } else {
         count = c % 8;
         for (k = 0; k < count; k++) {
-            lengths[k] = c >= 248 ? some(2 + 2 * count + total) : 1 + take() % 12;
+            lengths[k] = c >= 248 ? some(2 + 2 * count + total) : 1u + take() % 12;
             total += lengths[k];
         }
     }
@@ -1322,6 +1329,22 @@ static void test_items(enum function function)
         need(one == other && (one < 0 || same(f, back, size * sizeof *f)), "a walk answers otherwise");
     if (other >= 0)
         need(back[size - 2] >= 2 + 2 * count && back[size - 2] + back[size - 1] <= s.n, "a walk finds a part that is not behind the table");
+}
+
+/* All replies in one call are those that are asked for one by one. */
+static void test_read_replies(void)
+{
+    static size_t rows[MOST_ITEMS * BARK_REPLY_ROW];
+    size_t k, f[BARK_REPLY];
+    struct part s = subject(REPLIES, false, 0, true);
+    int64_t n = ask_read_replies(s, rows);
+    need(ask_read_body(s) == n, "another number of replies than of items");
+    for (k = 0; (int64_t)k < n; k = next_item(k, n)) {
+        const size_t *row = rows + k * BARK_REPLY_ROW;
+        int64_t one = ask_reply_item(s, k, f);
+        need(one < 0 ? row[BARK_REPLY_ROW_REFUSED] == (size_t)-one : row[BARK_REPLY_ROW_REFUSED] == 0, "a row's refusal is another");
+        need(one < 0 || same(f, row + BARK_REPLY_ROW_REPLY, sizeof f), "a row's reply is another");
+    }
 }
 
 /* A joined body has the items of both. */
@@ -1437,6 +1460,9 @@ static void test(enum function f)
     case F_reply_item:
     case F_walk_reply:
         test_items(f);
+        break;
+    case F_read_replies:
+        test_read_replies();
         break;
     case F_join_bodies:
         test_join();

@@ -647,6 +647,20 @@ static int64_t law_reply_in(const uint8_t *s, int64_t found, const size_t *item,
     return found;
 }
 
+/* A row for each item of a body. */
+static int64_t law_read_replies(const uint8_t *s, size_t n, size_t *rows)
+{
+    int64_t k, items = law_read_body(s, n);
+    for (k = 0; k < items; k++, rows += BARK_REPLY_ROW) {
+        size_t item[BARK_ITEM];
+        int64_t read = law_reply_in(s, law_walk_item(s, n, items, k, item), item, rows + BARK_REPLY_ROW_REPLY);
+        rows[BARK_REPLY_ROW_REFUSED] = read < 0 ? -read : 0;
+        if (read < 0)
+            memset(rows + BARK_REPLY_ROW_REPLY, 0, BARK_REPLY * sizeof *rows);
+    }
+    return items;
+}
+
 static int64_t law_join_bodies(const uint8_t *a, size_t a_len, const uint8_t *b, size_t b_len, uint8_t *out)
 {
     int64_t k, first = law_read_body(a, a_len), second;

@@ -171,4 +171,15 @@ int64_t WRAP(read_forward_open_reply)(bool routing, READER_TAKES)
         return BARK_OPENED;
     return a;
 }
+#elif FAULT == 25
+/* the row of a refused item keeps what stood in it */
+int64_t REAL(read_replies)(READER_TAKES);
+int64_t WRAP(read_replies)(READER_TAKES)
+{
+    size_t before = count >= BARK_REPLY_ROW ? fields[BARK_REPLY_ROW_REPLY] : 0;
+    int64_t a = REAL(read_replies)(READER_GIVEN);
+    if (a > 0 && fields[BARK_REPLY_ROW_REFUSED] != 0)
+        fields[BARK_REPLY_ROW_REPLY] = before;
+    return a;
+}
 #endif

@@ -10,7 +10,7 @@ cd "$out"
 clang -std=gnu11 -O2 -I"$here/../include" -fsanitize=address,undefined -fno-sanitize-recover=all -DSTANDALONE -c "$here/fuzz.c" -o driver.o
 planted=0
 found=0
-while [ $planted -lt 24 ]; do
+while [ $planted -lt 25 ]; do
     planted=$((planted + 1))
     case $planted in
     [1-9]) wraps=write_message ;;
@@ -23,6 +23,7 @@ while [ $planted -lt 24 ]; do
     22) wraps=read_nested ;;
     23) wraps=write_body ;;
     24) wraps=read_forward_open_reply ;;
+    25) wraps=read_replies ;;
     esac
     flags=
     for name in $wraps; do flags="$flags -Wl,--wrap=bark_$name"; done
@@ -31,7 +32,7 @@ while [ $planted -lt 24 ]; do
     clang -fsanitize=address,undefined driver.o fault.o $flags ${FUZZ_EXTRA:-} "$archive" -o planted
     rm -f crash-*
     ./planted "${1:-1000000}" 1 >log 2>&1 || true
-    first=$(ls | sed -n 's/^crash-1-//p' | sort -n | head -n 1)
+    first=$(find . -name 'crash-1-*' | sed 's/.*-//' | sort -n | head -n 1)
     if [ -n "$first" ]; then
         found=$((found + 1))
         echo "fault $planted ($wraps): found at execution $((first + 1)): $(sed -n 's/^BROKEN [a-z_]*: //p; s/.*ERROR: AddressSanitizer: \([A-Za-z-]*\).*/\1/p' log | head -n 1)"

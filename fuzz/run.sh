@@ -13,6 +13,9 @@ cc=${CC:-$(command -v clang || echo cc)}
 [ -f "$archive" ] || { echo "no archive $archive: sh tools/archives.sh makes it" >&2; exit 2; }
 mkdir -p "$out"
 cd "$out"
+sed -n 's/.*[ *]\(bark_[a-z_]*\)(.*/\1/p' "$here"/../include/*.h | sort -u >in-headers
+sed -n 's/^    X(\([a-z_]*\),.*/bark_\1/p' "$here/fuzz.c" | sort -u >in-driver
+diff in-headers in-driver || { echo 'the headers and the driver have other functions' >&2; exit 2; }
 rm -rf corpus crash-* timeout-* oom-* slow-unit-*
 mkdir corpus
 
@@ -26,11 +29,18 @@ build() {
 checks='-fsanitize=address,undefined -fno-sanitize-recover=all'
 echo 'int main(void) { return 0; }' >probe.c
 # shellcheck disable=SC2086
-"$cc" $checks probe.c -o probe 2>/dev/null && ./probe || { checks=; echo "no address checks in $cc: pages that fault are all there is"; }
+if ! "$cc" $checks probe.c -o probe 2>/dev/null || ! ./probe; then
+    echo "no address checks in $cc: the pages that fault are all there is"
+    checks=
+fi
 
+# shellcheck disable=SC2086
+build drawn $checks -DSTANDALONE
 done=0
 crashes=0
-echo 'int LLVMFuzzerTestOneInput(const unsigned char *s, unsigned long n); int LLVMFuzzerTestOneInput(const unsigned char *s, unsigned long n) { (void)s; (void)n; return 0; }' >probe.c
+echo '#include <stddef.h>
+int LLVMFuzzerTestOneInput(const unsigned char *s, size_t n);
+int LLVMFuzzerTestOneInput(const unsigned char *s, size_t n) { return s && n ? 0 : 0; }' >probe.c
 if "$cc" -fsanitize=fuzzer probe.c -o probe 2>/dev/null; then
     # shellcheck disable=SC2086
     build guided $checks -fsanitize=fuzzer -fno-sanitize-coverage=trace-cmp
@@ -39,12 +49,14 @@ if "$cc" -fsanitize=fuzzer probe.c -o probe 2>/dev/null; then
     done=$(sed -n 's/^stat::number_of_executed_units: //p' guided.log)
     sed -n '/^calls/,$p' guided.log
     echo "libFuzzer: ${done:=0} executions, $(sed -n 's/^stat::average_exec_per_sec: *//p' guided.log) a second"
+else
+    echo "no libFuzzer in $cc: all executions are drawn"
+    ./drawn "$here"/seeds/* || crashes=1
 fi
-
-# shellcheck disable=SC2086
-build drawn $checks -DSTANDALONE
-./drawn "$here"/seeds/*
-./drawn $((total - done)) "$seed" >drawn.log || true
+rest=$((total > done ? total - done : 0))
+./drawn $rest "$seed" >drawn.log || true
+# shellcheck disable=SC2046
 set -- $(tail -n 1 drawn.log)
-echo "$((done + ${1:-0})) executions, $((crashes + ${3:-1})) crashes"
-[ $((crashes + ${3:-1})) = 0 ]
+crashes=$((crashes + ${3:-1}))
+echo "$((done + ${1:-0})) executions, $crashes crashes"
+[ $crashes = 0 ]

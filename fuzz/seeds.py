@@ -119,6 +119,8 @@ for function in ("body_item", "walk_item", "reply_item", "walk_reply"):
     seed(function, "first", "00 40", RAW, BODY)
     seed(function, "second", "00 41", RAW, BODY)
     seed(function, "past-the-last", "00 00", RAW, BODY)
+seed("read_replies", "card", RAW, BODY)
+seed("read_replies", "empty", RAW, "0000")
 seed("join_bodies", "card", own(bytes.fromhex("01000400AA"), RAW + bytes.fromhex("01000400BBCC")))
 seed("join_bodies", "empty", own(bytes.fromhex("0000"), RAW + bytes.fromhex("0000")))
 seed("read_nested", "card", RAW, "0A02200224010200 0600 0E00 0E03200124013007 0E03200124013006")

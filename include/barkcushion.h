@@ -51,11 +51,13 @@ enum bark_send {
     BARK_SEND = 6 /* numbers of an Unconnected Send */
 };
 
-/* Writes the data of an Unconnected Send: the message, which may be any bytes, and the route. Refused: as bark_write_message. */
+/* Writes the data of an Unconnected Send: the message, which may be any bytes, and the route. The two tick bytes are written as they stand.
+ * Refused: as bark_write_message. */
 int64_t bark_write_unconnected_send(uint8_t priority_ticks, uint8_t timeout_ticks, const uint8_t *message, size_t message_len,
                                     const uint8_t *path, size_t path_len, uint8_t *out, size_t out_len);
 
-/* Reads the data of an Unconnected Send. Refused: LIMIT, SHORT, FORM, the path's own, LEFTOVER. */
+/* Reads the data of an Unconnected Send. Refused: LIMIT, SHORT, FORM one of the high four bits of the first byte, the pad or the reserved byte
+ * not zero, the path's own, LEFTOVER. */
 int64_t bark_read_unconnected_send(const uint8_t *s, size_t len, size_t *fields, size_t count);
 
 /* ---- Forward Open and Forward Close */
@@ -150,8 +152,8 @@ static inline int64_t bark_write_open(const struct bark_open_options *o, const u
                                    o->o_t_params, o->t_o_rpi, o->t_o_params, o->transport, path, path_len, out, out_len);
 }
 
-/* Reads the data of a Forward Open of the form that the caller names: BARK_OPEN numbers. Refused: LIMIT, SHORT, FORM, CODE, the path's own,
- * LEFTOVER. */
+/* Reads the data of a Forward Open of the form that the caller names: BARK_OPEN numbers. Refused: LIMIT, SHORT, FORM one of the high four bits
+ * of the first byte, a reserved byte or bit not zero, CODE as bark_decode_parameters and bark_decode_transport, the path's own, LEFTOVER. */
 int64_t bark_read_forward_open(bool large, const uint8_t *s, size_t len, size_t *fields, size_t count);
 
 /* The default Forward Open, with this serial number: BARK_OPEN_WRITTEN numbers, the parameters as words of the form that is named. */
@@ -172,7 +174,8 @@ enum bark_close {
 int64_t bark_write_forward_close(uint8_t priority_ticks, uint8_t timeout_ticks, uint16_t connection_serial_number, uint16_t vendor_id,
                                  uint32_t originator_serial_number, const uint8_t *path, size_t path_len, uint8_t *out, size_t out_len);
 
-/* Reads the data of a Forward Close. Refused: LIMIT, SHORT, FORM, the path's own, LEFTOVER. */
+/* Reads the data of a Forward Close. Refused: LIMIT, SHORT, FORM one of the high four bits of the first byte or the reserved byte not zero, the
+ * path's own, LEFTOVER. */
 int64_t bark_read_forward_close(const uint8_t *s, size_t len, size_t *fields, size_t count);
 
 /* ---- replies */

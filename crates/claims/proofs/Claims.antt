@@ -53,16 +53,16 @@ use Rattle.forward_sizes.proofs.forward_close_size
 use Rattle.forward_sizes.proofs.Exact as ForwardSizes
 use Rattle.forward_encode.proofs.write_forward_open
 use Rattle.forward_encode.proofs.write_forward_close
-use Rattle.forward_encode.proofs.over.write_forward_open_over
-use Rattle.forward_encode.proofs.over.write_forward_close_over
+use Rattle.forward_encode.proofs.write_forward_open_over
+use Rattle.forward_encode.proofs.write_forward_close_over
 use Rattle.forward_encode.proofs.Exact as ForwardEncode
 use Rattle.request_sizes.proofs.message_size
 use Rattle.request_sizes.proofs.unconnected_send_size
 use Rattle.request_sizes.proofs.Exact as RequestSizes
 use Rattle.request_encode.proofs.write_message
 use Rattle.request_encode.proofs.write_unconnected_send
-use Rattle.request_encode.proofs.over.write_message_over
-use Rattle.request_encode.proofs.over.write_unconnected_send_over
+use Rattle.request_encode.proofs.write_message_over
+use Rattle.request_encode.proofs.write_unconnected_send_over
 use Rattle.request_encode.proofs.Exact as RequestEncode
 use Rattle.message_read.proofs.read_message
 use Rattle.message_read.proofs.first_byte
@@ -121,16 +121,16 @@ use Rattle.c_requests.proofs.bark_read_message
 use Rattle.c_requests.proofs.bark_write_unconnected_send
 use Rattle.c_requests.proofs.bark_read_unconnected_send
 use Rattle.c_requests.proofs.Exact as CRequests
-use Rattle.c_forward_words.proofs.parameters.bark_encode_parameters
-use Rattle.c_forward_words.proofs.parameters.bark_decode_parameters
-use Rattle.c_forward_words.proofs.transport.bark_encode_transport
-use Rattle.c_forward_words.proofs.transport.bark_decode_transport
+use Rattle.c_forward_words.proofs.bark_encode_parameters
+use Rattle.c_forward_words.proofs.bark_decode_parameters
+use Rattle.c_forward_words.proofs.bark_encode_transport
+use Rattle.c_forward_words.proofs.bark_decode_transport
 use Rattle.c_forward_words.proofs.Exact as CForwardWords
-use Rattle.c_forwards.proofs.read.bark_read_forward_open
-use Rattle.c_forwards.proofs.read.bark_default_forward_open
-use Rattle.c_forwards.proofs.read.bark_read_forward_close
-use Rattle.c_forwards.proofs.write.bark_write_forward_close
-use Rattle.c_forwards.proofs.write.bark_write_forward_open
+use Rattle.c_forwards.proofs.bark_read_forward_open
+use Rattle.c_forwards.proofs.bark_default_forward_open
+use Rattle.c_forwards.proofs.bark_read_forward_close
+use Rattle.c_forwards.proofs.bark_write_forward_close
+use Rattle.c_forwards.proofs.bark_write_forward_open
 use Rattle.c_forwards.proofs.Exact as CForwards
 use Rattle.c_reply_numbers.proofs.reply_numbers
 use Rattle.c_reply_numbers.proofs.Exact as CReplyNumbers
