@@ -3,7 +3,7 @@
 # Needs clang and the archive, as run.sh does. The last line is `N planted, N found`.
 set -eu
 here=$(cd "$(dirname "$0")" && pwd)
-archive=${BARK_ARCHIVE:-$here/../target/staticlib/libbarkcushion.a}
+archive=$(realpath "${BARK_ARCHIVE:-$here/../target/staticlib/libbarkcushion.a}")
 out=${TMPDIR:-/tmp}/barkcushion-fuzz/planted
 mkdir -p "$out"
 cd "$out"

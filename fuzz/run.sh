@@ -11,6 +11,7 @@ archive=${BARK_ARCHIVE:-$here/../target/staticlib/libbarkcushion.a}
 out=${TMPDIR:-/tmp}/barkcushion-fuzz
 cc=${CC:-$(command -v clang || echo cc)}
 [ -f "$archive" ] || { echo "no archive $archive: sh tools/archives.sh makes it" >&2; exit 2; }
+archive=$(realpath "$archive")
 mkdir -p "$out"
 cd "$out"
 sed -n 's/.*[ *]\(bark_[a-z_]*\)(.*/\1/p' "$here"/../include/*.h | sort -u >in-headers

@@ -1,5 +1,6 @@
 pub mod ShiftLaws
 pub mod Places
+pub mod Ends
 pub mod Walks
 pub mod Held
 pub mod RoundTrip

@@ -5,11 +5,16 @@ use mathlib.Core.List.{List, []}
 use native.Mathlib.Omega.{arith}
 use native.Mathlib.Nat.{add-zero, zero-add}
 use native.Mathlib.Numerals.{add-one}
-use lib.ListN.{length, drop, set, length-set, length-replicate}
+use lib.ListN.{length, getD, drop, set, length-set, length-replicate}
 use lib.Seq.{sets}
+use mir.Val.{Fits}
+use mir.Syntax.{w8}
 use borrow.Author.Tests.{lt-ltb, le-ltb}
 use Rattle.wire.specs.Refusals.{number}
-use Rattle.wire.specs.Answers.{Answer, done, refused}
+use Rattle.wire.specs.Answers.{Answer, done, refused, paperCount}
+use Rattle.wire.specs.declared.Counted.{Counted}
+use Rattle.wire.specs.declared.Counted.the-variants.{Count, Refused as NotCounted}
+use Rattle.wire.proofs.Rules.{never}
 use Rattle.wire.specs.declared.Refusal.{Refusal}
 use Rattle.epath_sizes.specs.Limits.{maxSegments, mostBytes, maxPlace}
 use Rattle.epath_sizes.specs.declared.Segment.{Segment}
@@ -18,8 +23,9 @@ use Rattle.epath_segment.specs.declared.SegmentRead.the-variants.{Found, Refuse
 use Rattle.epath_sizes.specs.declared.Slot.{Slot}
 use Rattle.epath_sizes.specs.declared.Path.{Path}
 use Rattle.epath_sizes.specs.Lists.{blank, blanks, pathOf}
-use Rattle.epath_segment.specs.Reads.{front, paperFront, readSeg, moved}
-use Rattle.epath.specs.Paths.{before, walk, PathFound, countOf, listOf, readPath, checkPath, Placed}
+use Rattle.epath_segment.specs.Reads.{Front, front, paperFront, readSeg, moved}
+use Rattle.epath.specs.Paths.{before, walk, PathFound, countOf, listOf, readPath, checkPath, Placed, endOf, nextIn}
+use Rattle.epath.proofs.Places.{placed}
 
 -- ---- each end of the walk
 module _ (s : List ℕ) (at : ℕ) where
@@ -52,6 +58,19 @@ adds-none (refused k) = refl
 adds-one : (n : ℕ) (x : Segment) (w : Answer (List Slot)) → adds n (before x w) ≡ adds (n + 1) w
 adds-one n x (done l) = ap done (omega arith)
 adds-one n x (refused k) = refl
+
+-- an end that is told without its segment says what the walk does there
+stopped : (f : Answer Front) (k : ℕ) → endOf f ≡ refused k → f ≡ refused k
+stopped (done (front x n)) k h = never (sym h)
+stopped (refused j) k h = let e : j ≡ k = cc in ap refused e
+
+record Gone (f : Answer Front) (n : ℕ) : Type 0 where
+  x : Segment
+  is : f ≡ done (front x n)
+
+gone : (f : Answer Front) (n : ℕ) → endOf f ≡ done n → Gone f n
+gone (refused k) n h = never h
+gone (done (front x m)) n h = let e : m ≡ n = cc in record { x = x; is = ap (λ (k : ℕ). done (front x k)) e }
 
 -- what any loop of the walk keeps of its place
 pub record Stands (s : List ℕ) (count at : ℕ) : Type 0 where
@@ -86,20 +105,25 @@ module _ (s : List ℕ) (count at : ℕ) where
     pub counting-ends : length s ≤ at → done count ≡ checkPath s
     counting-ends h = ap done (sym (add-zero count)) ∙ ap (adds count) (sym (walk-ends s at (maxSegments - count) h)) ∙ w .rest
 
-    module _ (r : SegmentRead) (p : Placed s at (paperFront r)) (h : at < length s) (c : count ≡ maxSegments → ⊥) where
-      pub counting-stops : (e : Refusal) → r ≡ Refused e → refused (number e) ≡ checkPath s
+    module _ (r : Counted) (p : paperCount r ≡ nextIn s at) (h : at < length s) (c : count ≡ maxSegments → ⊥) where
+      pub counting-stops : (e : Refusal) → r ≡ NotCounted e → refused (number e) ≡ checkPath s
+      unfolding nextIn
       counting-stops e q =
-          ap (adds count) (sym (walk-stops s at (maxSegments - (count + 1)) (number e) h (sym (p .is) ∙ rw q)))
+          let m : moved at (readSeg (drop at s)) ≡ refused (number e) = stopped _ _ (sym p ∙ rw q) in
+          ap (adds count) (sym (walk-stops s at (maxSegments - (count + 1)) (number e) h m))
           ∙ ap (λ (k : ℕ). adds count (walk k s at)) (sym (one-less c (w .stands .few)))
           ∙ w .rest
 
-      pub counting-more : (x : Segment) (next : ℕ) → r ≡ Found x next → Counting s (count + 1) next
-      counting-more x next q =
+      pub counting-more : (next : ℕ) → r ≡ Count next → ((k : ℕ) → Fits w8 (getD s k 0)) → Counting s (count + 1) next
+      unfolding nextIn
+      counting-more next q b =
+          let g : Gone (moved at (readSeg (drop at s))) next = gone _ _ (sym p ∙ rw q) in
+          let l : Placed s at (moved at (readSeg (drop at s))) = placed s at b (w .stands .there) (readSeg (drop at s)) refl in
           record {
-            stands = stands-more x next (w .stands) c (rw q at p);
+            stands = stands-more (g .x) next (w .stands) c (rw (g .is) at l);
             rest =
-                sym (adds-one count x (walk (maxSegments - (count + 1)) s next))
-                ∙ ap (adds count) (sym (walk-goes s at (maxSegments - (count + 1)) x next h (sym (p .is) ∙ rw q)))
+                sym (adds-one count (g .x) (walk (maxSegments - (count + 1)) s next))
+                ∙ ap (adds count) (sym (walk-goes s at (maxSegments - (count + 1)) (g .x) next h (g .is)))
                 ∙ ap (λ (k : ℕ). adds count (walk k s at)) (sym (one-less c (w .stands .few)))
                 ∙ w .rest;
           }

@@ -75,3 +75,11 @@ pub record Placed (s : List ℕ) (at : ℕ) (r : Answer Front) : Type 0 where
   pub is : r ≡ moved at (readSeg (drop at s))
   pub inside : nextOf r ≤ length s
   pub close : nextOf r ≤ at + mostBytes
+
+-- the same with no segment: where it ends, or why there is none
+abbrev pub endOf : Answer Front → Answer ℕ
+endOf (done (front x n)) = done n
+endOf (refused k) = refused k
+
+unfoldable pub nextIn : List ℕ → ℕ → Answer ℕ
+nextIn s at = endOf (moved at (readSeg (drop at s)))

@@ -8,6 +8,7 @@ use lib.Seq.{sets}
 use mir.Val.{Fits}
 use mir.Syntax.{w64}
 use Rattle.wire.specs.Answers.{Put}
+use Rattle.wire.proofs.Stores.{length-lent}
 use Rattle.wire.proofs.Folds.{Storing, storing-first, storing-fits, storing-more, storing-ends}
 use Rattle.epath_sizes.specs.Limits.{maxSegments}
 use Rattle.epath_sizes.specs.Segments.{Seg, encodeSeg, encode}
@@ -57,6 +58,10 @@ module _ (pool : List ℕ) (p : Path) where
         unfolding x
         filing-asks = goods-here .0
 
+        pub filing-room : length (encodeSeg (meaning pool (getD (p .slots) i none .segment))) ≤ length (take (length out - at) (drop at out))
+        unfolding x
+        filing-room = omega (arith, storing-fits encodeSeg (segsOf pool p) (f .stores) here, length-lent out at)
+
         module _ (n : ℕ) (new : List ℕ) (t : Put (encodeSeg (meaning pool (getD (p .slots) i none .segment))) (take (length out - at) (drop at out)) n new) where
           pub filing-fits : length old < 2 ^ 64 → Fits w64 (at + n)
           unfolding x
@@ -66,4 +71,4 @@ module _ (pool : List ℕ) (p : Path) where
           unfolding x
           filing-more = record { stores = storing-more encodeSeg (segsOf pool p) (f .stores) here t; good = goods-here .1 }
 
-pub ruleset filing-laws = (filing-first, filing-at, filing-same, filing-ends, filing-asks, filing-fits, filing-more)
+pub ruleset filing-laws = (filing-first, filing-at, filing-same, filing-ends, filing-asks, filing-room, filing-fits, filing-more)

@@ -257,6 +257,34 @@ module _ (t : List ℕ) where
       let s : z ≡ readAs (formOf (getD t 0 0)) (getD t 0 0) t = r ∙ rw (← q, p, e) in
       search rules
 
+  -- ---- the most common forms, where two bytes are there
+  module _ (h : 2 ≤ length t) where
+    narrow-front : (k : Kind) → Narrow k ≡ formOf (getD t 0 0) → done (front (made k (getD t 1 0)) 2) ≡ readSeg t
+    narrow-front k e = front-is (getD t 0 0) (Narrow k) (Narrow k) _ refl e refl (omega arith) (narrow-is t (made k) (getD t 1 0) _ refl refl h)
+
+    pub class-front : getD t 0 0 ≡ classCode → done (front (Class (getD t 1 0)) 2) ≡ readSeg t
+    class-front e = narrow-front kClass (form-class _ e)
+
+    pub instance-front : getD t 0 0 ≡ instanceCode → done (front (Instance (getD t 1 0)) 2) ≡ readSeg t
+    instance-front e = narrow-front kInstance (form-instance _ e)
+
+    pub attribute-front : getD t 0 0 ≡ attributeCode → done (front (Attribute (getD t 1 0)) 2) ≡ readSeg t
+    attribute-front e = narrow-front kAttribute (form-attribute _ e)
+
+    pub element-front : getD t 0 0 ≡ elementCode → done (front (Element (getD t 1 0)) 2) ≡ readSeg t
+    element-front e = narrow-front kElement (form-element _ e)
+
+    pub port-front : getD t 0 0 < farPortCode → done (front (Port (record { port = getD t 0 0 % longLink; start = 1; len = 1 })) 2) ≡ readSeg t
+    port-front l =
+        let b : ℕ = getD t 0 0 in
+        let x : Segment = Port (record { port = b % longLink; start = 1; len = 1 }) in
+        let p : done (front x 2) ≡ readPart x 2 t = part-even t x 2 h refl in
+        front-is b fPort fPort _ refl (form-port b (omega arith)) refl (omega arith)
+        (port-one b _ (omega arith) (number-low (b % longLink) 1 1 _ (omega arith) (link-is (b % longLink) 1 1 _ p)))
+
+    pub symbol-front : (n : ℕ) (z : Answer Front) → n ≡ getD t 1 0 → getD t 0 0 ≡ symbolCode → z ≡ readPart (Symbol (record { start = 2; len = n })) (2 + n) t → z ≡ readSeg t
+    symbol-front n z e c p = front-is (getD t 0 0) fSymbol fSymbol z refl (form-symbol _ c) refl (omega arith) (symbol-is n z e h p)
+
 pub ruleset port-laws = (symbol-short, symbol-is, link-is, number-low, number-short, number-small, number-is, port-one, port-short, port-few, port-many, port-is)
 
 pub ruleset front-laws = (front-short, front-is)

@@ -6,14 +6,11 @@ use borrow.Author.Needs.{needs}
 use Rattle.epath_encode.proofs.encode.encode_attribute.Statement.{statement}
 use Rattle.epath_encode.proofs.encode.encode_attribute.Tie as tie
 
-put-byte-requires : tie.Need-put-byte-requires
-put-byte-requires c κs = search needs
+cast-put-two : tie.Need-cast-put-two
+cast-put-two c = search needs
 
-cast-put-byte : tie.Need-cast-put-byte
-cast-put-byte c = search needs
-
-put-byte-requires-2 : tie.Need-put-byte-requires-2
-put-byte-requires-2 c κs = search needs
+put-two-requires : tie.Need-put-two-requires
+put-two-requires c κs = search (logical-laws, needs) fits 5000
 
 same-length : tie.Need-same-length
 same-length c = search needs
@@ -21,17 +18,11 @@ same-length c = search needs
 returns : tie.Need-returns
 returns c = search (logical-laws, needs) fits 5000
 
-add-put-byte : tie.Need-add-put-byte
-add-put-byte c = search needs
+add-put-wide : tie.Need-add-put-wide
+add-put-wide c = search needs
 
-put-byte-requires-3 : tie.Need-put-byte-requires-3
-put-byte-requires-3 c κs = search needs
-
-put-byte-requires-4 : tie.Need-put-byte-requires-4
-put-byte-requires-4 c κs = search needs
-
-put-u16-requires : tie.Need-put-u16-requires
-put-u16-requires c κs = search needs
+put-wide-requires : tie.Need-put-wide-requires
+put-wide-requires c κs = search (logical-laws, needs) fits 5000
 
 same-length-2 : tie.Need-same-length-2
 same-length-2 c = search needs
@@ -43,14 +34,11 @@ pub encode-attribute-spec : {M : Type 1} → statement M
 encode-attribute-spec =
     tie.close
     (tie.spec
-    put-byte-requires
-    cast-put-byte
-    put-byte-requires-2
+    cast-put-two
+    put-two-requires
     same-length
     returns
-    add-put-byte
-    put-byte-requires-3
-    put-byte-requires-4
-    put-u16-requires
+    add-put-wide
+    put-wide-requires
     same-length-2
     returns-2)

@@ -10,7 +10,7 @@ cast-put-head : tie.Need-cast-put-head
 cast-put-head c = search needs
 
 put-head-requires : tie.Need-put-head-requires
-put-head-requires c κs = search needs
+put-head-requires c κs = search (end-laws, needs) fits 5000
 
 put-padded-requires : tie.Need-put-padded-requires
 put-padded-requires c κs = search (end-laws, needs) fits 5000

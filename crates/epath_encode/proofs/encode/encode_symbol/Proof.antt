@@ -6,17 +6,14 @@ use borrow.Author.Needs.{needs}
 use Rattle.epath_encode.proofs.encode.encode_symbol.Statement.{statement}
 use Rattle.epath_encode.proofs.encode.encode_symbol.Tie as tie
 
-put-byte-requires : tie.Need-put-byte-requires
-put-byte-requires c κs = search needs
+cast-put-two : tie.Need-cast-put-two
+cast-put-two c = search needs
 
-cast-put-byte : tie.Need-cast-put-byte
-cast-put-byte c = search needs
-
-put-byte-requires-2 : tie.Need-put-byte-requires-2
-put-byte-requires-2 c κs = search needs
+put-two-requires : tie.Need-put-two-requires
+put-two-requires c κs = search (end-laws, needs) fits 5000
 
 put-padded-requires : tie.Need-put-padded-requires
-put-padded-requires c κs = search needs
+put-padded-requires c κs = search (end-laws, needs) fits 5000
 
 same-length : tie.Need-same-length
 same-length c = search needs
@@ -26,11 +23,4 @@ returns c = search (end-laws, needs) fits 5000
 
 pub encode-symbol-spec : {M : Type 1} → statement M
 encode-symbol-spec =
-    tie.close
-    (tie.spec
-    put-byte-requires
-    cast-put-byte
-    put-byte-requires-2
-    put-padded-requires
-    same-length
-    returns)
+    tie.close (tie.spec cast-put-two put-two-requires put-padded-requires same-length returns)

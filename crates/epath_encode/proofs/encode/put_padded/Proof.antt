@@ -6,8 +6,8 @@ use borrow.Author.Needs.{needs}
 use Rattle.epath_encode.proofs.encode.put_padded.Statement.{statement}
 use Rattle.epath_encode.proofs.encode.put_padded.Tie as tie
 
-put-bytes-requires : tie.Need-put-bytes-requires
-put-bytes-requires c κs = search needs
+put-run-requires : tie.Need-put-run-requires
+put-run-requires c κs = search (pad-laws, needs) fits 5000
 
 add-end : tie.Need-add-end
 add-end c = search needs
@@ -18,8 +18,8 @@ same-length c = search needs
 returns : tie.Need-returns
 returns c = search (pad-laws, needs) fits 5000
 
-put-byte-requires : tie.Need-put-byte-requires
-put-byte-requires c κs = search needs
+slice-write-out : tie.Need-slice-write-out
+slice-write-out c = search (pad-laws, needs) fits 5000
 
 add-result : tie.Need-add-result
 add-result c = search needs
@@ -34,11 +34,11 @@ pub put-padded-spec : {M : Type 1} → statement M
 put-padded-spec =
     tie.close
     (tie.spec
-    put-bytes-requires
+    put-run-requires
     add-end
     same-length
     returns
-    put-byte-requires
+    slice-write-out
     add-result
     same-length-2
     returns-2)

@@ -1,0 +1,46 @@
+-- `epath_encode::encode::put_wide` meets its contract. Assumes nothing.
+--: use native.Mathlib.Omega.{arith}
+--: use lib.ListN.{length-set}
+--: * = simp length-set (omega arith)
+use native.Mathlib.Omega.{arith}
+use lib.ListN.{length-set}
+use borrow.Author.Needs.{needs}
+use Rattle.epath_encode.proofs.encode.put_wide.Statement.{statement}
+use Rattle.epath_encode.proofs.encode.put_wide.Tie as tie
+
+slice-write-out : tie.Need-slice-write-out
+slice-write-out c = search needs
+
+slice-write-out-2 : tie.Need-slice-write-out-2
+slice-write-out-2 c = simp length-set (omega arith)
+
+cast-out : tie.Need-cast-out
+cast-out c = search needs
+
+slice-write-out-3 : tie.Need-slice-write-out-3
+slice-write-out-3 c = simp length-set (omega arith)
+
+cast-out-2 : tie.Need-cast-out-2
+cast-out-2 c = search needs
+
+slice-write-out-4 : tie.Need-slice-write-out-4
+slice-write-out-4 c = search needs
+
+same-length : tie.Need-same-length
+same-length c = search needs
+
+returns : tie.Need-returns
+returns c = search needs
+
+pub put-wide-spec : {M : Type 1} → statement M
+put-wide-spec =
+    tie.close
+    (tie.spec
+    slice-write-out
+    slice-write-out-2
+    cast-out
+    slice-write-out-3
+    cast-out-2
+    slice-write-out-4
+    same-length
+    returns)
