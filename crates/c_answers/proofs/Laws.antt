@@ -54,6 +54,15 @@ count-done w n h = sym (ap (λ (x : Counted). code (paperCount x)) h)
 pub count-refused : (w : Counted) (e : Refusal) (r : ℕ) → w ≡ NotCounted e → r ≡ code (refused (number e)) → r ≡ code (paperCount w)
 count-refused w e r h f = f ∙ sym (ap (λ (x : Counted). code (paperCount x)) h)
 
+-- what another function answers, handed on as a number
+pub size-told : (w : Wrote) (x : Answer ℕ) (r : ℕ) → paperSize w ≡ x → r ≡ code (paperSize w) → r ≡ code x
+size-told w x r h e = e ∙ ap code h
+
+pub count-told : (w : Counted) (x : Answer ℕ) (r : ℕ) → paperCount w ≡ x → r ≡ code (paperCount w) → r ≡ code x
+count-told w x r h e = e ∙ ap code h
+
+pub ruleset told-laws = (size-told, count-told)
+
 pub ruleset answer-laws = (refusal-code, refusal-fits, size-done, size-refused, count-done, count-refused)
 
 -- ---- the loop that fills a run

@@ -4,9 +4,7 @@ use mathlib.Core.Path.{_≡_, sym, ap, _∙_}
 use mathlib.Core.List.{List}
 use lib.ListN.{length}
 use Rattle.wire.specs.Refusals.{number}
-use Rattle.wire.specs.Answers.{Answer, refused, done, paperSize, paperCount, withRoom, written}
-use Rattle.wire.specs.declared.Wrote.{Wrote}
-use Rattle.wire.specs.declared.Counted.{Counted}
+use Rattle.wire.specs.Answers.{Answer, refused, done, withRoom, written}
 use Rattle.wire.specs.declared.Refusal.{Refusal}
 use Rattle.body_items.specs.declared.Item.{Item}
 use Rattle.body_items.specs.declared.ItemRead.{ItemRead}
@@ -14,15 +12,6 @@ use Rattle.body_items.specs.declared.ItemRead.the-variants.{Found, Refused}
 use Rattle.body_items.specs.Items.{paperItem}
 use Rattle.c_answers.specs.Codes.{code, filled, numbers}
 use Rattle.c_bodies.specs.Fields.{itemNumbers, itemFields}
-
--- ---- an answer that is handed on as a number
-pub size-told : (w : Wrote) (x : Answer ℕ) (r : ℕ) → paperSize w ≡ x → r ≡ code (paperSize w) → r ≡ code x
-size-told w x r h e = e ∙ ap code h
-
-pub count-told : (w : Counted) (x : Answer ℕ) (r : ℕ) → paperCount w ≡ x → r ≡ code (paperCount w) → r ≡ code x
-count-told w x r h e = e ∙ ap code h
-
-pub ruleset told-laws = (size-told, count-told)
 
 -- ---- an item as a number, and what the lent run holds then
 

@@ -34,10 +34,6 @@ use Rattle.c_forwards.specs.Writes.{Held, held, readWords, paperWords, o
 use Rattle.c_forwards.specs.declared.Words.{Words}
 use Rattle.c_forwards.specs.declared.Words.the-variants.{Found, Refused as NoWords}
 
--- ---- what another writer answers, as a number
-pub size-told : (y : Answer ℕ) (w : Wrote) (r : ℕ) → paperSize w ≡ y → r ≡ code (paperSize w) → r ≡ code y
-size-told y w r is e = e ∙ ap code is
-
 -- ---- the words of a Forward Open
 module _ (large : Bool) (x y b : ℕ) (v : ParametersRead) (one : paperParameters v ≡ readParameters large x) where
   afterFirst : ConnectionParameters → Answer Held

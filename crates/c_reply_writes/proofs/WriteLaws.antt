@@ -16,10 +16,6 @@ use Rattle.c_answers.specs.Codes.{code}
 use Rattle.c_replies.specs.Replies.{statusOf}
 use Rattle.c_reply_writes.specs.Writes.{remainingFrom, failOf}
 
--- what a writer answers, as a number
-pub size-told : (x : Answer ℕ) (w : Wrote) (r : ℕ) → paperSize w ≡ x → r ≡ code (paperSize w) → r ≡ code x
-size-told x w r is e = e ∙ ap code is
-
 -- ---- the size of the path that was left
 module _ (hasRemaining : Bool) (remaining : ℕ) where
   pub remaining-told : hasRemaining ≡ true → Words remaining ≡ remainingFrom hasRemaining remaining

@@ -20,10 +20,6 @@ use Rattle.c_answers.specs.Codes.{code, filled, numbers}
 use Rattle.c_answers.proofs.Laws.{read-refused, read-kept, read-answer, read-stored}
 use Rattle.c_requests.specs.Fields.{messageNumbers, messageFields, sendNumbers, sendFields}
 
--- ---- a writer's answer that is handed on as a number
-pub size-told : (w : Wrote) (x : Answer ℕ) (r : ℕ) → paperSize w ≡ x → r ≡ code (paperSize w) → r ≡ code x
-size-told w x r h e = e ∙ ap code h
-
 -- ---- a reader that answers x, of which the numbers f are told
 module _ {A : Type 0} (x : Answer A) (f : A → List ℕ) (old : List ℕ) where
   abbrev told : Answer (List ℕ)

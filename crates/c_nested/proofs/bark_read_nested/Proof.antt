@@ -1,7 +1,7 @@
 -- `c_nested::bark_read_nested` meets its contract. Assumes nothing.
---: use Rattle.c_nested.proofs.Laws.{told-laws}
+--: use Rattle.c_answers.proofs.Laws.{told-laws}
 --: * = search (told-laws, needs) fits 5000
-use Rattle.c_nested.proofs.Laws.{told-laws}
+use Rattle.c_answers.proofs.Laws.{told-laws}
 use borrow.Author.Needs.{needs}
 use Rattle.c_nested.proofs.bark_read_nested.Statement.{statement}
 use Rattle.c_nested.proofs.bark_read_nested.Tie as tie
