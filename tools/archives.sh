@@ -7,14 +7,15 @@ set -eu
 cd "$(dirname "$0")/.."
 parts='c_paths c_requests c_forwards c_forward_words c_replies c_forward_replies c_reply_writes c_bodies c_body_replies c_reply_walk c_nested'
 lib=target/staticlib
+log=$(mktemp)
+trap 'rm -f "$log"' EXIT
 for part in $parts; do
-    grep -q "^$part:" crates.txt || continue
-    rt staticlib "$part" >"/tmp/barkcushion-$part.log" 2>&1 || { cat "/tmp/barkcushion-$part.log" >&2; exit 1; }
+    rt staticlib "$part" >"$log" 2>&1 || { cat "$log" >&2; exit 1; }
 done
 cp "$lib/libc_paths.a" "$lib/libbarkcushion_path.a"
 {
     echo "create $lib/libbarkcushion.a"
-    for part in $parts; do [ ! -f "$lib/lib$part.a" ] || echo "addlib $lib/lib$part.a"; done
+    for part in $parts; do echo "addlib $lib/lib$part.a"; done
     echo save
     echo end
 } | ar -M
