@@ -6,7 +6,7 @@ use native.Mathlib.Nat.{add-assoc}
 use native.Mathlib.Omega.{arith}
 use lib.ListN.{length, drop, length-drop, drop-of-length-le}
 use Rattle.wire.proofs.Stores.{part-length, part-split, part-last}
-use Rattle.body_encode.specs.Bodies.{tableEnd, starts, total, flat}
+use Rattle.body_encode.specs.Bodies.{tableEnd, starts, sumOf, flat}
 use Rattle.body_read.specs.Reads.{countAt, offsetAt}
 use Rattle.body_read.proofs.Accepts.{Accepted}
 use Rattle.body_items.specs.Items.{stopAt, itemAt, bytesIn, itemsFrom, itemsOf}
@@ -22,11 +22,11 @@ starts-raised at by (n ∷ ns) =
     let e : at + by + n ≡ at + n + by = omega arith in
     ap (λ (k : ℕ). (at + by) ∷ starts k ns) e ∙ ap (λ (l : List ℕ). (at + by) ∷ l) (starts-raised (at + n) by ns)
 
-pub starts-append : (at : ℕ) (ms ns : List ℕ) → starts at (ms ++ ns) ≡ starts at ms ++ starts (at + total ms) ns
+pub starts-append : (at : ℕ) (ms ns : List ℕ) → starts at (ms ++ ns) ≡ starts at ms ++ starts (at + sumOf ms) ns
 starts-append at [] ns = let e : at ≡ at + 0 = omega arith in ap (λ (k : ℕ). starts k ns) e
 starts-append at (m ∷ ms) ns =
     ap (λ (l : List ℕ). at ∷ l) (starts-append (at + m) ms ns)
-    ∙ ap (λ (k : ℕ). at ∷ (starts (at + m) ms ++ starts k ns)) (add-assoc at m (total ms))
+    ∙ ap (λ (k : ℕ). at ∷ (starts (at + m) ms ++ starts k ns)) (add-assoc at m (sumOf ms))
 
 -- ---- the items of an accepted body
 pub items-length : (m : ℕ) (s : List ℕ) (n k : ℕ) → length (itemsFrom m s n k) ≡ m

@@ -11,19 +11,19 @@ use Rattle.wire.specs.Numbers.{valueOf, lowFirst}
 use Rattle.wire.specs.Parts.{part}
 use Rattle.wire.specs.Folds.{joined}
 use Rattle.wire.specs.Refusals.{number}
-use Rattle.wire.specs.Answers.{Answer, done, refused, paperSize, paperCount, andThen}
+use Rattle.wire.specs.Answers.{Answer, done, refused, paperSize, paperCount, andThen, withinLimit}
 use Rattle.wire.specs.declared.Refusal.{Refusal}
 use Rattle.wire.specs.declared.Counted.{Counted}
 use Rattle.wire.specs.declared.Counted.the-variants.{Count, Refused as NotCounted}
 use Rattle.wire.specs.declared.Wrote.{Wrote}
 use Rattle.wire.specs.declared.Wrote.the-variants.{Size}
-use Rattle.wire.proofs.Rules.{rules, then-stops, then-goes, Went, then-were}
+use Rattle.wire.proofs.Rules.{rules, then-stops, then-goes, Went, then-were, within-was}
 use Rattle.wire.proofs.Numbers.{low-length}
 use Rattle.wire.proofs.Stores.{sets-onto, part-last}
 use Rattle.wire.proofs.Folds.{joined-append}
 use Rattle.connection.specs.Limits.{maxRecord}
-use Rattle.body_encode.specs.Bodies.{tableEnd, starts, twoBytes, flat, bodyOf, total, limited}
-use Rattle.body_encode.proofs.BodyLaws.{length-two, length-body, length-flat, limited-was}
+use Rattle.body_encode.specs.Bodies.{tableEnd, starts, twoBytes, flat, bodyOf, sumOf}
+use Rattle.body_encode.proofs.BodyLaws.{length-two, length-body, length-flat}
 use Rattle.body_read.specs.Reads.{countAt, readBody}
 use Rattle.body_read.proofs.Accepts.{Accepted, accepted}
 use Rattle.body_items.specs.Items.{itemsOf}
@@ -55,7 +55,7 @@ module _ (a b : List ℕ) (m n : ℕ) (p : Accepted a m) (q : Accepted b n) wher
 -- ---- the ends of the sizer
 module _ (a b : List ℕ) (v : Counted) (first : paperCount v ≡ readBody a) where
   abbrev rest : Answer ℕ
-  rest = andThen (readBody b) (λ n. limited (length (joinOf a b)))
+  rest = andThen (readBody b) (λ n. withinLimit maxRecord (length (joinOf a b)))
 
   pub size-first : (e : Refusal) → v ≡ NotCounted e → refused (number e) ≡ joinSize a b
   unfolding joinSize
@@ -69,7 +69,7 @@ module _ (a b : List ℕ) (v : Counted) (first : paperCount v ≡ readBody a) wh
     unfolding joinSize
     size-second e g =
         then-goes (readBody a) (λ m. rest) m (refused (number e)) read-first
-        (then-stops (readBody b) (λ n. limited (length (joinOf a b))) (number e) (sym second ∙ ap paperCount g))
+        (then-stops (readBody b) (λ n. withinLimit maxRecord (length (joinOf a b))) (number e) (sym second ∙ ap paperCount g))
 
     module _ (n : ℕ) (g : w ≡ Count n) where
       read-second : readBody b ≡ done n
@@ -78,12 +78,12 @@ module _ (a b : List ℕ) (v : Counted) (first : paperCount v ≡ readBody a) wh
       pub size-counts : 2 ≤ length a + length b
       size-counts = omega (arith, accepted a m read-first .table)
 
-      goes : (z : Answer ℕ) → z ≡ limited (length a + length b - 2) → z ≡ joinSize a b
+      goes : (z : Answer ℕ) → z ≡ withinLimit maxRecord (length a + length b - 2) → z ≡ joinSize a b
       unfolding joinSize
       goes z e =
           then-goes (readBody a) (λ m. rest) m z read-first
-          (then-goes (readBody b) (λ n. limited (length (joinOf a b))) n z read-second
-          (e ∙ ap limited (sym (join-length a b m n (accepted a m read-first) (accepted b n read-second)))))
+          (then-goes (readBody b) (λ n. withinLimit maxRecord (length (joinOf a b))) n z read-second
+          (e ∙ ap (withinLimit maxRecord) (sym (join-length a b m n (accepted a m read-first) (accepted b n read-second)))))
 
       pub size-over : maxRecord < length a + length b - 2 → refused 3 ≡ joinSize a b
       size-over l = goes (refused 3) (search rules)
@@ -102,11 +102,11 @@ module _ (a b : List ℕ) (size : ℕ) where
   pub join-was : joinSize a b ≡ done size → Joined
   unfolding joinSize
   join-was h =
-      let r : Answer ℕ = andThen (readBody b) (λ n. limited (length (joinOf a b))) in
+      let r : Answer ℕ = andThen (readBody b) (λ n. withinLimit maxRecord (length (joinOf a b))) in
       let t : Went (readBody a) (λ m. r) size = then-were (readBody a) (λ m. r) size h in
-      let u : Went (readBody b) (λ n. limited (length (joinOf a b))) size
-      = then-were (readBody b) (λ n. limited (length (joinOf a b))) size (t .then) in
-      let w = limited-was (length (joinOf a b)) size (u .then) in
+      let u : Went (readBody b) (λ n. withinLimit maxRecord (length (joinOf a b))) size
+      = then-were (readBody b) (λ n. withinLimit maxRecord (length (joinOf a b))) size (t .then) in
+      let w = within-was maxRecord (length (joinOf a b)) size (u .then) in
       let p : Accepted a (t .found) = accepted a (t .found) (t .is) in
       let q : Accepted b (u .found) = accepted b (u .found) (u .is) in
       let l : length (joinOf a b) ≡ length a + length b - 2 = join-length a b (t .found) (u .found) p q in
@@ -193,9 +193,9 @@ module _ (a b : List ℕ) (u : Joinable a b) where
       ∙ starts-raised (tableEnd (countAt a)) (2 * countAt b) (map length (itemsOf a))
       ∙ ap (raised (2 * countAt b)) (items-starts a (countAt a) one)
 
-  second-starts : starts (tableEnd (countAt a + countAt b) + total (map length (itemsOf a))) (map length (itemsOf b)) ≡ after
+  second-starts : starts (tableEnd (countAt a + countAt b) + sumOf (map length (itemsOf a))) (map length (itemsOf b)) ≡ after
   second-starts =
-      let e : tableEnd (countAt a + countAt b) + total (map length (itemsOf a)) ≡ tableEnd (countAt b) + (length a - 2)
+      let e : tableEnd (countAt a + countAt b) + sumOf (map length (itemsOf a)) ≡ tableEnd (countAt b) + (length a - 2)
       = omega (arith, length-flat (itemsOf a), length-items a (countAt a) one, one .table) in
       ap (λ (k : ℕ). starts k (map length (itemsOf b))) e
       ∙ starts-raised (tableEnd (countAt b)) (length a - 2) (map length (itemsOf b))

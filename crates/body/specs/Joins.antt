@@ -5,9 +5,9 @@ use Prim.Native.Nat.{ℕ, zero, suc, _+_, _*_, _-_, _≤_, _<_}
 use mathlib.Core.Path.{_≡_}
 use mathlib.Core.List.{List, [], _∷_, _++_, map}
 use lib.ListN.{length}
-use Rattle.wire.specs.Answers.{Answer, done, andThen}
+use Rattle.wire.specs.Answers.{Answer, done, andThen, withinLimit}
 use Rattle.connection.specs.Limits.{maxRecord}
-use Rattle.body_encode.specs.Bodies.{bodyOf, limited}
+use Rattle.body_encode.specs.Bodies.{bodyOf}
 use Rattle.body_read.specs.Reads.{countAt, offsetAt, readBody}
 use Rattle.body_items.specs.Items.{itemsOf}
 
@@ -17,7 +17,7 @@ joinOf a b = bodyOf (itemsOf a ++ itemsOf b)
 
 -- how many: the first body's refusal, the second's, then the limit
 unfoldable pub joinSize : List ℕ → List ℕ → Answer ℕ
-joinSize a b = andThen (readBody a) (λ m. andThen (readBody b) (λ n. limited (length (joinOf a b))))
+joinSize a b = andThen (readBody a) (λ m. andThen (readBody b) (λ n. withinLimit maxRecord (length (joinOf a b))))
 
 -- ---- what the parts of the writer are told
 

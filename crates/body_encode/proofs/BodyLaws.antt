@@ -6,11 +6,11 @@ use native.Mathlib.Omega.{arith}
 use lib.ListN.{length-map, length, take, drop, length-append, length-drop}
 use lib.Seq.{length-take-le, take-add}
 use Rattle.wire.specs.Folds.{joined}
-use Rattle.wire.specs.Answers.{done, over}
+use Rattle.wire.specs.Answers.{done, over, withinLimit}
 use Rattle.wire.proofs.Rules.{all-keep, all-were}
 use Rattle.wire.proofs.Numbers.{low-length}
 use Rattle.connection.specs.Limits.{maxRecord}
-use Rattle.body_encode.specs.Bodies.{tableEnd, starts, twoBytes, flat, bodyOf, cut, total, limited}
+use Rattle.body_encode.specs.Bodies.{tableEnd, starts, twoBytes, flat, bodyOf, cut, sumOf}
 
 pub length-two : (vs : List ℕ) → length (joined twoBytes vs) ≡ 2 * length vs
 length-two [] = refl
@@ -20,7 +20,7 @@ pub length-starts : (at : ℕ) (ns : List ℕ) → length (starts at ns) ≡ len
 length-starts at [] = refl
 length-starts at (n ∷ ns) = ap suc (length-starts (at + n) ns)
 
-pub length-flat : (xs : List (List ℕ)) → length (flat xs) ≡ total (map length xs)
+pub length-flat : (xs : List (List ℕ)) → length (flat xs) ≡ sumOf (map length xs)
 length-flat [] = refl
 length-flat (x ∷ xs) = length-append x (flat xs) ∙ ap (λ (k : ℕ). length x + k) (length-flat xs)
 
@@ -36,28 +36,17 @@ length-body xs =
     length-append (joined twoBytes (length xs ∷ starts (tableEnd (length xs)) (map length xs))) (flat xs)
     ∙ ap (λ (k : ℕ). k + length (flat xs)) (length-table xs)
 
--- ---- the limit
-
-pub limited-is : (n : ℕ) → n ≤ maxRecord → limited n ≡ done n
-limited-is n h = all-keep (over n maxRecord 3 ∷ []) (done n) (h, tt)
-
-pub limited-was : (n size : ℕ) → limited n ≡ done size → (n ≤ maxRecord) × (n ≡ size)
-limited-was n size h =
-    let w = all-were (over n maxRecord 3 ∷ []) (done n) size h in
-    let d : done n ≡ done size = w .1 in
-    (w .0 .0, cc)
-
 -- ---- items that were lent end to end
 
 pub cut-length : (ns s : List ℕ) → length (cut ns s) ≡ length ns
 cut-length [] s = refl
 cut-length (n ∷ ns) s = ap suc (cut-length ns (drop n s))
 
-pub cut-flat : (ns s : List ℕ) → flat (cut ns s) ≡ take (total ns) s
+pub cut-flat : (ns s : List ℕ) → flat (cut ns s) ≡ take (sumOf ns) s
 cut-flat [] s = refl
-cut-flat (n ∷ ns) s = ap (λ (l : List ℕ). take n s ++ l) (cut-flat ns (drop n s)) ∙ sym (take-add n (total ns) s)
+cut-flat (n ∷ ns) s = ap (λ (l : List ℕ). take n s ++ l) (cut-flat ns (drop n s)) ∙ sym (take-add n (sumOf ns) s)
 
-pub cut-lengths : (ns s : List ℕ) → total ns ≤ length s → map length (cut ns s) ≡ ns
+pub cut-lengths : (ns s : List ℕ) → sumOf ns ≤ length s → map length (cut ns s) ≡ ns
 cut-lengths [] s h = refl
 cut-lengths (n ∷ ns) s h =
     rw (length-take-le n s (omega arith), cut-lengths ns (drop n s) (simp length-drop (omega arith)))

@@ -11,18 +11,18 @@ use mir.Syntax.{w16, w64}
 use Rattle.wire.specs.Numbers.{lowFirst}
 use Rattle.wire.specs.Parts.{part}
 use Rattle.wire.specs.Folds.{joined}
-use Rattle.wire.specs.Answers.{Answer, done, refused, paperSize, under, over, judged, plus}
+use Rattle.wire.specs.Answers.{Answer, done, refused, paperSize, under, over, judged, plus, withinLimit}
 use Rattle.wire.specs.Refusals.{number}
 use Rattle.wire.specs.declared.Refusal.{Refusal}
 use Rattle.wire.specs.declared.Wrote.{Wrote}
 use Rattle.wire.specs.declared.Wrote.the-variants.{Size, Refused}
-use Rattle.wire.proofs.Rules.{rules, all-keep, all-were, then-stops, then-goes, Went, then-were}
+use Rattle.wire.proofs.Rules.{rules, all-keep, all-were, then-stops, then-goes, Went, then-were, within-was}
 use Rattle.wire.proofs.Answers.{Parts, plus-parts, plus-none, plus-assoc}
 use Rattle.wire.proofs.Numbers.{low-length}
 use Rattle.wire.proofs.Stores.{sets-onto}
 use Rattle.connection.specs.Limits.{maxRecord}
-use Rattle.body_encode.specs.Bodies.{tableEnd, starts, twoBytes, flat, bodyOf, cut, total, itemsSize, limited, bodySize}
-use Rattle.body_encode.proofs.BodyLaws.{length-two, length-starts, length-body, length-flat, limited-was, cut-length, cut-flat, cut-lengths}
+use Rattle.body_encode.specs.Bodies.{tableEnd, starts, twoBytes, flat, bodyOf, cut, sumOf, itemsSize, bodySize}
+use Rattle.body_encode.proofs.BodyLaws.{length-two, length-starts, length-body, length-flat, cut-length, cut-flat, cut-lengths}
 
 -- the list from i on is what stands at i, and the list from i + 1 on
 next : (ns : List ℕ) (i n : ℕ) → n ≡ getD ns i 0 → i < length ns → drop i ns ≡ n ∷ drop (i + 1) ns
@@ -84,7 +84,7 @@ pub ruleset judging-laws = (judging-first, judging-outside, judging-empty, judgi
 
 -- ---- what a size says of the lengths
 pub record Sized (lent : ℕ) (ns : List ℕ) (n : ℕ) : Type 0 where
-  pub sum : n ≡ total ns
+  pub sum : n ≡ sumOf ns
   pub inside : n ≤ lent
   pub many : length ns ≤ n
 
@@ -106,15 +106,15 @@ module _ (lent : ℕ) (ns : List ℕ) (w : Wrote) (is : paperSize w ≡ itemsSiz
   pub size-refused : (e : Refusal) → w ≡ Refused e → refused (number e) ≡ bodySize lent ns
   unfolding bodySize
   size-refused e h =
-      then-stops (itemsSize lent ns) (λ n. limited (tableEnd (length ns) + n)) (number e) (sym is ∙ ap paperSize h)
+      then-stops (itemsSize lent ns) (λ n. withinLimit maxRecord (tableEnd (length ns) + n)) (number e) (sym is ∙ ap paperSize h)
 
   module _ (n : ℕ) (h : w ≡ Size n) where
     found : itemsSize lent ns ≡ done n
     found = sym is ∙ ap paperSize h
 
-    goes : (z : Answer ℕ) → z ≡ limited (tableEnd (length ns) + n) → z ≡ bodySize lent ns
+    goes : (z : Answer ℕ) → z ≡ withinLimit maxRecord (tableEnd (length ns) + n) → z ≡ bodySize lent ns
     unfolding bodySize
-    goes z e = then-goes (itemsSize lent ns) (λ m. limited (tableEnd (length ns) + m)) n z found e
+    goes z e = then-goes (itemsSize lent ns) (λ m. withinLimit maxRecord (tableEnd (length ns) + m)) n z found e
 
     pub size-over : maxRecord < n → refused 3 ≡ bodySize lent ns
     size-over l = let k : maxRecord < tableEnd (length ns) + n = omega arith in goes (refused 3) (search rules)
@@ -136,17 +136,17 @@ pub ruleset size-laws = (size-refused, size-over, size-limit, size-found, size-f
 
 -- ---- what a body's size says
 pub record BodySized (lent : ℕ) (ns : List ℕ) (size : ℕ) : Type 0 where
-  pub is : size ≡ tableEnd (length ns) + total ns
+  pub is : size ≡ tableEnd (length ns) + sumOf ns
   pub small : size ≤ maxRecord
-  pub inside : total ns ≤ lent
+  pub inside : sumOf ns ≤ lent
 
 pub body-sized : (lent : ℕ) (ns : List ℕ) (size : ℕ) → bodySize lent ns ≡ done size → BodySized lent ns size
 unfolding bodySize
 body-sized lent ns size h =
-    let t : Went (itemsSize lent ns) (λ n. limited (tableEnd (length ns) + n)) size = then-were (itemsSize lent ns) _ size h in
+    let t : Went (itemsSize lent ns) (λ n. withinLimit maxRecord (tableEnd (length ns) + n)) size = then-were (itemsSize lent ns) _ size h in
     let n : ℕ = t .found in
     let r : Sized lent ns n = sized lent ns n (t .is) in
-    let w = limited-was (tableEnd (length ns) + n) size (t .then) in
+    let w = within-was maxRecord (tableEnd (length ns) + n) size (t .then) in
     let l : tableEnd (length ns) + n ≤ maxRecord = w .0 in
     let e : tableEnd (length ns) + n ≡ size = w .1 in
     record { is = omega (arith, e, r .sum); small = omega (arith, e, l); inside = omega (arith, r .sum, r .inside) }
@@ -155,14 +155,14 @@ body-sized lent ns size h =
 module _ (ns old : List ℕ) where
   pub record Placing (out : List ℕ) (at i : ℕ) : Type 0 where
     pub most : i ≤ length ns
-    pub sum : at + total (drop i ns) ≡ tableEnd (length ns) + total ns
+    pub sum : at + sumOf (drop i ns) ≡ tableEnd (length ns) + sumOf ns
     pub rest : sets out (2 + 2 * i) (joined twoBytes (starts at (drop i ns))) ≡ sets old 2 (joined twoBytes (starts (tableEnd (length ns)) ns))
     pub same : length out ≡ length old
 
   pub placing-first : Placing old (2 + 2 * length ns) 0
   placing-first = record { most = omega arith; sum = refl; rest = refl; same = refl }
 
-  module _ (out : List ℕ) (at i : ℕ) (m : Placing out at i) (small : tableEnd (length ns) + total ns ≤ maxRecord) where
+  module _ (out : List ℕ) (at i : ℕ) (m : Placing out at i) (small : tableEnd (length ns) + sumOf ns ≤ maxRecord) where
     pub placing-place : Fits w16 at
     placing-place = record { fits = omega (arith, m .sum) }
 
@@ -170,8 +170,8 @@ module _ (ns old : List ℕ) where
     placing-ends h = ap (λ (l : List ℕ). sets out (2 + 2 * i) (joined twoBytes (starts at l))) (sym (drop-of-length-le ns h)) ∙ m .rest
 
     module _ (n : ℕ) (is : n ≡ getD ns i 0) (h : i < length ns) where
-      left : at + (n + total (drop (i + 1) ns)) ≡ tableEnd (length ns) + total ns
-      left = ap (λ (l : List ℕ). at + total l) (sym (next ns i n is h)) ∙ m .sum
+      left : at + (n + sumOf (drop (i + 1) ns)) ≡ tableEnd (length ns) + sumOf ns
+      left = ap (λ (l : List ℕ). at + sumOf l) (sym (next ns i n is h)) ∙ m .sum
 
       pub placing-sum : Fits w64 (at + n)
       placing-sum = record { fits = omega (arith, left) }
@@ -197,7 +197,7 @@ module _ (s ns : List ℕ) (w : Wrote) (is : paperSize w ≡ bodySize (length s)
   whole : BodySized (length s) ns size
   whole = body-sized (length s) ns size (sym is ∙ ap paperSize h)
 
-  pub body-small : tableEnd (length ns) + total ns ≤ maxRecord
+  pub body-small : tableEnd (length ns) + sumOf ns ≤ maxRecord
   body-small = omega (arith, whole .is, whole .small)
 
   pub body-count : Fits w16 (length ns)
@@ -209,7 +209,7 @@ module _ (s ns : List ℕ) (w : Wrote) (is : paperSize w ≡ bodySize (length s)
   pub body-length : size ≡ length (bodyOf (cut ns s))
   body-length =
       let c : map length (cut ns s) ≡ ns = cut-lengths ns s (whole .inside) in
-      omega (arith, whole .is, length-body (cut ns s), cut-length ns s, length-flat (cut ns s), ap total c)
+      omega (arith, whole .is, length-body (cut ns s), cut-length ns s, length-flat (cut ns s), ap sumOf c)
 
   pub body-put : (old a b c p : List ℕ) → a ≡ sets old 0 (lowFirst 2 (length ns)) → b ≡ sets a 2 (joined twoBytes (starts (tableEnd (length ns)) ns))
       → p ≡ part s 0 (size - (2 + 2 * length ns)) → c ≡ sets b (2 + 2 * length ns) p → c ≡ sets old 0 (bodyOf (cut ns s))
@@ -217,7 +217,7 @@ module _ (s ns : List ℕ) (w : Wrote) (is : paperSize w ≡ bodySize (length s)
   body-put old a b c p e f g q =
       let n : ℕ = length ns in
       let t : List ℕ = joined twoBytes (starts (tableEnd n) ns) in
-      let k : size - (2 + 2 * n) ≡ total ns = omega (arith, whole .is) in
+      let k : size - (2 + 2 * n) ≡ sumOf ns = omega (arith, whole .is) in
       let items : p ≡ flat (cut ns s) = g ∙ ap (λ (j : ℕ). take j s) k ∙ sym (cut-flat ns s) in
       let l : length (lowFirst 2 n ++ t) ≡ 2 + 2 * n = length-two (n ∷ starts (tableEnd n) ns) ∙ omega (arith, length-starts (tableEnd n) ns) in
       let two : b ≡ sets old 0 (lowFirst 2 n ++ t) = sets-onto old a b (lowFirst 2 n) t 0 2 e (omega (arith, low-length 2 n)) f in

@@ -6,7 +6,7 @@ use mathlib.Core.List.{List, [], _∷_, _++_, map}
 use lib.ListN.{length, take, drop}
 use Rattle.wire.specs.Numbers.{lowFirst}
 use Rattle.wire.specs.Folds.{joined}
-use Rattle.wire.specs.Answers.{Answer, done, under, over, judged, andThen, plus}
+use Rattle.wire.specs.Answers.{Answer, done, under, over, judged, andThen, plus, withinLimit}
 use Rattle.connection.specs.Limits.{maxRecord}
 
 -- ---- the bytes
@@ -38,19 +38,15 @@ abbrev pub cut : List ℕ → List ℕ → List (List ℕ)
 cut [] s = []
 cut (n ∷ ns) s = take n s ∷ cut ns (drop n s)
 
-abbrev pub total : List ℕ → ℕ
-total [] = 0
-total (n ∷ ns) = n + total ns
+abbrev pub sumOf : List ℕ → ℕ
+sumOf [] = 0
+sumOf (n ∷ ns) = n + sumOf ns
 
 -- how many bytes they have, where so many are lent: first to last, 11 past the lent end, 7 for length 0
 unfoldable pub itemsSize : ℕ → List ℕ → Answer ℕ
 itemsSize lent [] = done 0
 itemsSize lent (n ∷ ns) = judged (over n lent 11 ∷ under n 1 7 ∷ []) (plus (done n) (itemsSize (lent - n) ns))
 
--- a body of so many bytes: 3 past the limit
-abbrev pub limited : ℕ → Answer ℕ
-limited n = judged (over n maxRecord 3 ∷ []) (done n)
-
 -- how many bytes their body has
 unfoldable pub bodySize : ℕ → List ℕ → Answer ℕ
-bodySize lent ns = andThen (itemsSize lent ns) (λ n. limited (tableEnd (length ns) + n))
+bodySize lent ns = andThen (itemsSize lent ns) (λ n. withinLimit maxRecord (tableEnd (length ns) + n))

@@ -13,7 +13,7 @@ ghost use lib.Seq.{sets};
 ghost use Rattle.wire.specs.Answers.{paperSize, withRoom, written};
 ghost use Rattle.wire.specs.Folds.{joined};
 ghost use Rattle.connection.specs.Limits.{maxRecord};
-ghost use Rattle.body_encode.specs.Bodies.{tableEnd, starts, total, cut, bodyOf, twoBytes, itemsSize, bodySize};
+ghost use Rattle.body_encode.specs.Bodies.{tableEnd, starts, sumOf, cut, bodyOf, twoBytes, itemsSize, bodySize};
 
 // How many of the lent bytes are items: first to last, none ends past the lent end (11) and none is empty (7).
 fn items_size(lent: usize, lengths: &[usize]) -> Wrote
@@ -57,7 +57,7 @@ pub fn body_size(items: &[u8], lengths: &[usize]) -> Wrote
 
 // Stores where each item starts.
 fn put_offsets(lengths: &[usize], out: &mut [u8])
-    requires { ⌜ tableEnd (length (now lengths)) + total (now lengths) ≤ maxRecord ⌝ }
+    requires { ⌜ tableEnd (length (now lengths)) + sumOf (now lengths) ≤ maxRecord ⌝ }
     ensures { λ _. ⌜ now (out .exit) ≡ sets (now (out .entry)) 2 (joined twoBytes (starts (tableEnd (length (now (lengths .entry)))) (now (lengths .entry)))) ⌝ }
 {
     let mut at = 2 + 2 * lengths.len();

@@ -21,7 +21,7 @@ use Rattle.body_items.specs.declared.ItemRead.{ItemRead}
 use Rattle.body_items.specs.declared.ItemRead.the-variants.{Found as FoundItem, Refused as NoItem}
 use Rattle.body_items.specs.Items.{bytesIn, walkItem, bodyItem, paperItem}
 use Rattle.body_items.proofs.ItemLaws.{walk-inside, item-inside}
-use Rattle.body_replies.specs.Replies.{shifted, replyIn}
+use Rattle.body_replies.specs.Replies.{shiftedReply, replyIn}
 
 -- ---- the header of an item's bytes
 module _ (s : List ℕ) (i : Item) (p : List ℕ) (part-is : p ≡ part s (i .start) (i .len)) (w : ReplyRead) (is : paperReply w ≡ readHeader p) where
@@ -29,14 +29,14 @@ module _ (s : List ℕ) (i : Item) (p : List ℕ) (part-is : p ≡ part s (i .st
   read = is ∙ ap readHeader part-is
 
   pub in-refused : (e : Refusal) → w ≡ Refused e → refused (number e) ≡ replyIn s i
-  in-refused e h = then-stops (readHeader (bytesIn s i)) (λ m. done (shifted (i .start) m)) (number e) (sym read ∙ ap paperReply h)
+  in-refused e h = then-stops (readHeader (bytesIn s i)) (λ m. done (shiftedReply (i .start) m)) (number e) (sym read ∙ ap paperReply h)
 
   module _ (m : MessageReply) (h : w ≡ Found m) where
     found : readHeader (bytesIn s i) ≡ done m
     found = sym read ∙ ap paperReply h
 
-    pub in-found : done (shifted (i .start) m) ≡ replyIn s i
-    in-found = then-goes (readHeader (bytesIn s i)) (λ m. done (shifted (i .start) m)) m (done (shifted (i .start) m)) found refl
+    pub in-found : done (shiftedReply (i .start) m) ≡ replyIn s i
+    in-found = then-goes (readHeader (bytesIn s i)) (λ m. done (shiftedReply (i .start) m)) m (done (shiftedReply (i .start) m)) found refl
 
 -- a header's data starts inside what it was read from, so its place in the body is a small number
 pub in-fits : (at : ℕ) (p : List ℕ) (w : ReplyRead) (m : MessageReply) → at ≤ maxRecord → paperReply w ≡ readHeader p → w ≡ Found m

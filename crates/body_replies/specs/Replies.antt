@@ -9,12 +9,12 @@ use Rattle.body_items.specs.declared.Item.{Item}
 use Rattle.body_items.specs.Items.{bytesIn, walkItem, bodyItem}
 
 -- a reply that was read from a place on, with its data counted from before that place
-abbrev pub shifted : ℕ → MessageReply → MessageReply
-shifted at m = record { «reply_service» = m .«reply_service»; status = m .status; «data_start» = at + m .«data_start»; «data_len» = m .«data_len» }
+abbrev pub shiftedReply : ℕ → MessageReply → MessageReply
+shiftedReply at m = record { «reply_service» = m .«reply_service»; status = m .status; «data_start» = at + m .«data_start»; «data_len» = m .«data_len» }
 
 -- the header of exactly that item's bytes
 abbrev pub replyIn : List ℕ → Item → Answer MessageReply
-replyIn s i = andThen (readHeader (bytesIn s i)) (λ m. done (shifted (i .start) m))
+replyIn s i = andThen (readHeader (bytesIn s i)) (λ m. done (shiftedReply (i .start) m))
 
 abbrev pub bodyReply : List ℕ → ℕ → Answer MessageReply
 bodyReply s k = andThen (bodyItem s k) (replyIn s)

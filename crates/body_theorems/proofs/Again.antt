@@ -5,13 +5,14 @@ use mathlib.Core.List.{List, [], _∷_, _++_, map}
 use native.Mathlib.Omega.{arith}
 use lib.ListN.{length, take, drop, length-drop, length-map, take-append-drop}
 use lib.Seq.{drop-drop, take-add, take-append-seam, drop-append-seam}
+use Rattle.connection.specs.Limits.{maxRecord}
 use Rattle.wire.specs.Numbers.{Bytes, valueOf, lowFirst}
 use Rattle.wire.specs.Folds.{joined}
 use Rattle.wire.specs.Answers.{done, under, over, plus}
-use Rattle.wire.proofs.Rules.{all-keep}
+use Rattle.wire.proofs.Rules.{all-keep, within-is}
 use Rattle.wire.proofs.Numbers.{low-value, bytes-drop}
-use Rattle.body_encode.specs.Bodies.{tableEnd, starts, twoBytes, flat, bodyOf, cut, total, itemsSize, bodySize}
-use Rattle.body_encode.proofs.BodyLaws.{length-flat, limited-is}
+use Rattle.body_encode.specs.Bodies.{tableEnd, starts, twoBytes, flat, bodyOf, cut, sumOf, itemsSize, bodySize}
+use Rattle.body_encode.proofs.BodyLaws.{length-flat}
 use Rattle.body_read.specs.Reads.{offsetAt, readBody}
 use Rattle.body_read.proofs.Accepts.{Accepted, accepted}
 use Rattle.body_items.specs.Items.{itemsFrom, itemsOf}
@@ -69,7 +70,7 @@ cut-again : (xs : List (List ℕ)) → cut (map length xs) (flat xs) ≡ xs
 cut-again [] = refl
 cut-again (x ∷ xs) = rw (take-append-seam x (flat xs), drop-append-seam x (flat xs), cut-again xs)
 
-sizes-again : (xs : List (List ℕ)) (lent : ℕ) → Filled xs → total (map length xs) ≤ lent → itemsSize lent (map length xs) ≡ done (total (map length xs))
+sizes-again : (xs : List (List ℕ)) (lent : ℕ) → Filled xs → sumOf (map length xs) ≤ lent → itemsSize lent (map length xs) ≡ done (sumOf (map length xs))
 unfolding itemsSize
 sizes-again [] lent f h = refl
 sizes-again (x ∷ xs) lent f h =
@@ -85,16 +86,16 @@ unfolding bodySize
 write-what-was-read s n b h =
     let a : Accepted s n = accepted s n h in
     let d : flat (itemsOf s) ≡ drop (tableEnd n) s = items-behind s n a in
-    let t : total (map length (itemsOf s)) ≡ length s - tableEnd n = sym (length-flat (itemsOf s)) ∙ length-items s n a in
+    let t : sumOf (map length (itemsOf s)) ≡ length s - tableEnd n = sym (length-flat (itemsOf s)) ∙ length-items s n a in
     let l : length (drop (tableEnd n) s) ≡ length s - tableEnd n = length-drop (tableEnd n) s in
-    let z : itemsSize (length (drop (tableEnd n) s)) (map length (itemsOf s)) ≡ done (total (map length (itemsOf s)))
+    let z : itemsSize (length (drop (tableEnd n) s)) (map length (itemsOf s)) ≡ done (sumOf (map length (itemsOf s)))
     = sizes-again (itemsOf s) (length (drop (tableEnd n) s)) (items-filled s n h) (omega arith) in
-    let whole : tableEnd (length (map length (itemsOf s))) + total (map length (itemsOf s)) ≡ length s
+    let whole : tableEnd (length (map length (itemsOf s))) + sumOf (map length (itemsOf s)) ≡ length s
     = omega (arith, length-map (itemsOf s) length, count-items s n a, a .table) in
     record {
       size =
           rw z
-          (limited-is (tableEnd (length (map length (itemsOf s))) + total (map length (itemsOf s))) (omega (arith, whole, a .small))
+          (within-is maxRecord (tableEnd (length (map length (itemsOf s))) + sumOf (map length (itemsOf s))) (omega (arith, whole, a .small))
           ∙ ap done whole);
       bytes = ap (λ (f : List ℕ). bodyOf (cut (map length (itemsOf s)) f)) (sym d) ∙ ap bodyOf (cut-again (itemsOf s)) ∙ written-of-read s n b h;
     }

@@ -7,13 +7,13 @@ use mathlib.Core.Logic.{⊎-elim}
 use native.Mathlib.Omega.{arith}
 use lib.ListN.{length, length-append}
 use Rattle.wire.specs.Numbers.{Bytes}
-use Rattle.wire.specs.Answers.{Answer, done, refused, andThen}
-use Rattle.wire.proofs.Rules.{rules, then-done}
+use Rattle.wire.specs.Answers.{Answer, done, refused, andThen, withinLimit}
+use Rattle.wire.proofs.Rules.{rules, then-done, within-is}
 use Rattle.wire.proofs.Numbers.{below-or}
 use Rattle.wire.proofs.Folds.{joined-append}
 use Rattle.connection.specs.Limits.{maxRecord}
-use Rattle.body_encode.specs.Bodies.{flat, bodyOf, limited}
-use Rattle.body_encode.proofs.BodyLaws.{length-body, limited-is}
+use Rattle.body_encode.specs.Bodies.{flat, bodyOf}
+use Rattle.body_encode.proofs.BodyLaws.{length-body}
 use Rattle.body_read.specs.Reads.{readBody}
 use Rattle.body_read.proofs.Accepts.{accepted}
 use Rattle.body_items.specs.Items.{itemsOf}
@@ -32,7 +32,7 @@ filled-append (x ∷ xs) ys f g = (f .0, filled-append xs ys (f .1) g)
 
 -- ---- of two accepted bodies, by the sum of their lengths
 module _ (a b : List ℕ) (m n : ℕ) (first : readBody a ≡ done m) (second : readBody b ≡ done n) where
-  size-is : joinSize a b ≡ limited (length (joinOf a b))
+  size-is : joinSize a b ≡ withinLimit maxRecord (length (joinOf a b))
   unfolding joinSize
   size-is = rw (first, second) refl
 
@@ -40,7 +40,7 @@ module _ (a b : List ℕ) (m n : ℕ) (first : readBody a ≡ done m) (second : 
   long = join-length a b m n (accepted a m first) (accepted b n second)
 
   pub join-size-is : length a + length b ≤ maxRecord + 2 → joinSize a b ≡ done (length (joinOf a b))
-  join-size-is l = size-is ∙ limited-is (length (joinOf a b)) (omega (arith, long))
+  join-size-is l = size-is ∙ within-is maxRecord (length (joinOf a b)) (omega (arith, long))
 
   pub join-is : length a + length b ≤ maxRecord + 2 → join a b ≡ done (joinOf a b)
   join-is l = rw (join-size-is l) refl
@@ -48,7 +48,7 @@ module _ (a b : List ℕ) (m n : ℕ) (first : readBody a ≡ done m) (second : 
   pub join-over : maxRecord + 2 < length a + length b → join a b ≡ refused 3
   join-over l =
       let k : maxRecord < length (joinOf a b) = omega (arith, long) in
-      let z : refused 3 ≡ limited (length (joinOf a b)) = search rules in
+      let z : refused 3 ≡ withinLimit maxRecord (length (joinOf a b)) = search rules in
       rw (size-is ∙ sym z) refl
 
   -- the joined body is a body, of both lists' items

@@ -20,7 +20,7 @@ use Rattle.body_read.proofs.Accepts.{accepted}
 use Rattle.body_items.specs.declared.Item.{Item}
 use Rattle.body_items.specs.Items.{bodyItem, walkItem, bytesIn}
 use Rattle.body_items.proofs.ItemLaws.{ItemOf, item-was, Span, span, walk-same}
-use Rattle.body_replies.specs.Replies.{shifted, replyIn, bodyReply, walkReply}
+use Rattle.body_replies.specs.Replies.{shiftedReply, replyIn, bodyReply, walkReply}
 use Rattle.body_theorems.proofs.Written.{Filled, Handed, item-of-written}
 
 -- what a reply says, wherever it lies: service, status, and the bytes of its data
@@ -50,7 +50,7 @@ part-part s a n b c h =
 
 -- ---- in an item, a reply says what its bytes alone say
 in-item : (s : List ℕ) (i : Item) (x : Answer MessageReply) → x ≡ readHeader (bytesIn s i) → i .start + i .len ≤ length s
-    → andThen (andThen x (λ m. done (shifted (i .start) m))) (λ m. done (toldIn s m)) ≡ andThen x (λ m. done (toldIn (bytesIn s i) m))
+    → andThen (andThen x (λ m. done (shiftedReply (i .start) m))) (λ m. done (toldIn s m)) ≡ andThen x (λ m. done (toldIn (bytesIn s i) m))
 in-item s i (refused k) e l = refl
 in-item s i (done m) e l =
     let r : Rest (bytesIn s i) m = header-rest (bytesIn s i) m (sym e) in

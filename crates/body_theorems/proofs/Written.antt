@@ -11,13 +11,13 @@ use lib.Seq.{drop-cons, drop-at, length-take-le}
 use Rattle.wire.specs.Numbers.{valueOf, lowFirst}
 use Rattle.wire.specs.Parts.{part}
 use Rattle.wire.specs.Folds.{joined}
-use Rattle.wire.specs.Answers.{done, under, over, plus}
+use Rattle.wire.specs.Answers.{done, under, over, plus, withinLimit}
 use Rattle.wire.proofs.Rules.{all-keep, all-were, Went, then-were}
 use Rattle.wire.proofs.Answers.{Parts, plus-parts}
 use Rattle.wire.proofs.Numbers.{value-low, low-length}
 use Rattle.wire.proofs.Stores.{past-part, part-front}
 use Rattle.connection.specs.Limits.{maxRecord}
-use Rattle.body_encode.specs.Bodies.{tableEnd, starts, twoBytes, flat, bodyOf, cut, total, itemsSize, limited, bodySize}
+use Rattle.body_encode.specs.Bodies.{tableEnd, starts, twoBytes, flat, bodyOf, cut, sumOf, itemsSize, bodySize}
 use Rattle.body_encode.proofs.BodyLaws.{length-body, length-table, length-flat, cut-length, cut-lengths}
 use Rattle.body_encode.proofs.WriteLaws.{BodySized, body-sized}
 use Rattle.body_read.specs.Reads.{countAt, offsetAt, readBody}
@@ -222,12 +222,12 @@ pub record Back (s ns : List ℕ) : Type 0 where
 pub written-reads-back : (s ns : List ℕ) (size : ℕ) → bodySize (length s) ns ≡ done size → Back s ns
 unfolding bodySize
 written-reads-back s ns size h =
-    let t : Went (itemsSize (length s) ns) (λ n. limited (tableEnd (length ns) + n)) size = then-were (itemsSize (length s) ns) _ size h in
+    let t : Went (itemsSize (length s) ns) (λ n. withinLimit maxRecord (tableEnd (length ns) + n)) size = then-were (itemsSize (length s) ns) _ size h in
     let b : BodySized (length s) ns size = body-sized (length s) ns size h in
     let f : Filled (cut ns s) = cut-filled (length s) ns s (t .found) refl (t .is) in
     let c : map length (cut ns s) ≡ ns = cut-lengths ns s (b .inside) in
     let l : length (bodyOf (cut ns s)) ≤ maxRecord
-    = omega (arith, b .is, b .small, length-body (cut ns s), cut-length ns s, length-flat (cut ns s), ap total c) in
+    = omega (arith, b .is, b .small, length-body (cut ns s), cut-length ns s, length-flat (cut ns s), ap sumOf c) in
     record {
       count = read-of-written (cut ns s) f l ∙ ap done (cut-length ns s);
       items = items-of-body (cut ns s) f l;

@@ -14,10 +14,10 @@ use Rattle.wire.specs.declared.Wrote.{Wrote}
 use Rattle.wire.specs.declared.Wrote.the-variants.{Size, Refused as NotWritten}
 use Rattle.wire.specs.declared.Counted.{Counted}
 use Rattle.wire.specs.declared.Counted.the-variants.{Count, Refused as NotCounted}
-use Rattle.wire.proofs.Rules.{rules}
+use Rattle.wire.proofs.Rules.{rules, then-stops, then-goes}
 use Rattle.wire.proofs.Answers.{room-kept, room-was}
 use Rattle.wire.proofs.Stores.{Copying, copy-first, copy-more, copy-ends, run-whole, sets-overlay}
-use Rattle.c_answers.specs.Codes.{end, half, code, filled, numbers, Told}
+use Rattle.c_answers.specs.Codes.{twoTo64, twoTo63, code, filled, numbers, runAnswer, runLeft, runOf, Told}
 use Rattle.wire.specs.declared.Refusal.{Refusal}
 use Rattle.wire.specs.declared.Refusal.the-variants.{Short, Room, Limit, Code, Form, Words, Offset, Leftover, Depth, Envelope, Outside}
 
@@ -36,10 +36,10 @@ number-known Outside = (omega arith, omega arith)
 
 -- ---- an answer as a number
 
-pub refusal-code : (e : Refusal) (n : ℕ) → n ≡ number e → end - 1 - n + 1 ≡ code (refused (number e))
+pub refusal-code : (e : Refusal) (n : ℕ) → n ≡ number e → twoTo64 - 1 - n + 1 ≡ code (refused (number e))
 refusal-code e n h = omega (arith, number-known e .0, number-known e .1)
 
-pub refusal-fits : (e : Refusal) (n : ℕ) → n ≡ number e → Fits w64 (end - 1 - n + 1)
+pub refusal-fits : (e : Refusal) (n : ℕ) → n ≡ number e → Fits w64 (twoTo64 - 1 - n + 1)
 refusal-fits e n h = record { fits = omega (arith, number-known e .0, number-known e .1) }
 
 pub size-done : (w : Wrote) (n : ℕ) → w ≡ Size n → n ≡ code (paperSize w)
@@ -110,6 +110,28 @@ module _ (a : Answer (List ℕ)) (old : List ℕ) where
 
 pub ruleset read-laws = (read-refused, read-kept, read-answer, read-stored)
 
+-- a reader of any answers, whose numbers f are told: it answered w, which says x
+module _ {A R : Type 0} (paper : R → Answer A) (f : A → List ℕ) (x : Answer A) (old : List ℕ) (w : R) (is : paper w ≡ x) where
+  module _ (k : ℕ) (h : paper w ≡ refused k) where
+    none : runOf f x ≡ refused k
+    none = sym (then-stops x (λ v. done (f v)) k (sym is ∙ h))
+
+    pub run-refused : (r : ℕ) → r ≡ code (refused k) → r ≡ code (runAnswer (runOf f x) old)
+    run-refused r = read-refused (runOf f x) old k r none
+
+    pub run-kept : old ≡ runLeft (runOf f x) old
+    run-kept = read-kept (runOf f x) old k none
+
+  module _ (v : A) (src : List ℕ) (h : paper w ≡ done v) (n : src ≡ f v) where
+    some : runOf f x ≡ done src
+    some = sym (then-goes x (λ v. done (f v)) v (done src) (sym is ∙ h) (ap done n))
+
+    pub run-answer : (r : ℕ) → r ≡ code (withRoom (done (length src)) (length old)) → r ≡ code (runAnswer (runOf f x) old)
+    run-answer r = read-answer (runOf f x) old src r some
+
+    pub run-stored : (new : List ℕ) → new ≡ written (withRoom (done (length src)) (length old)) src old → new ≡ runLeft (runOf f x) old
+    run-stored new = read-stored (runOf f x) old src new some
+
 -- answers that are told apart have numbers of their own
 pub told-apart : (x y : Answer ℕ) → Told x → Told y → code x ≡ code y → x ≡ y
 told-apart (done m) (done n) a b h = ap done h
@@ -118,15 +140,15 @@ told-apart (refused k) (done m) a b h = absurd (omega (arith, a .0, a .1))
 told-apart (refused j) (refused k) a b h = ap refused (omega (arith, a .0, a .1, b .0, b .1))
 
 -- what a writer answers is told apart, as long as it was lent less than half of all that can be numbered
-pub wrote-told : (w : Wrote) (y : Answer ℕ) (room : ℕ) → paperSize w ≡ withRoom y room → room < half → Told (withRoom y room)
+pub wrote-told : (w : Wrote) (y : Answer ℕ) (room : ℕ) → paperSize w ≡ withRoom y room → room < twoTo63 → Told (withRoom y room)
 wrote-told (Size n) y room h l =
     let f : (y ≡ done n) × (n ≤ room) = room-was y room n (sym h) in
     let g : n ≤ room = f .1 in
-    let t : n < half = omega arith in
+    let t : n < twoTo63 = omega arith in
     subst Told h t
 wrote-told (NotWritten e) y room h l = subst Told h (number-known e)
 
 -- so is a count below that half
-pub counted-told : (c : Counted) → ((n : ℕ) → c ≡ Count n → n < half) → Told (paperCount c)
+pub counted-told : (c : Counted) → ((n : ℕ) → c ≡ Count n → n < twoTo63) → Told (paperCount c)
 counted-told (Count n) f = f n refl
 counted-told (NotCounted e) f = number-known e

@@ -11,16 +11,16 @@ use Rattle.body_items.specs.declared.ItemRead.{ItemRead}
 use Rattle.body_items.specs.declared.ItemRead.the-variants.{Found, Refused}
 use Rattle.body_items.specs.Items.{paperItem}
 use Rattle.c_answers.specs.Codes.{code, filled, numbers}
-use Rattle.c_bodies.specs.Fields.{itemNumbers, itemFields}
+use Rattle.c_bodies.specs.Fields.{itemNumbers, itemRun}
 
 -- ---- an item as a number, and what the lent run holds then
 
 -- how many numbers there are, where there is room for them
 abbrev told : Answer Item → List ℕ → Answer ℕ
-told a old = withRoom (filled (itemFields a)) (length old)
+told a old = withRoom (filled (itemRun a)) (length old)
 
 abbrev left : Answer Item → List ℕ → List ℕ
-left a old = written (told a old) (numbers (itemFields a)) old
+left a old = written (told a old) (numbers (itemRun a)) old
 
 module _ (w : ItemRead) (old : List ℕ) where
   pub item-refused : (e : Refusal) (r : ℕ) → w ≡ Refused e → r ≡ code (refused (number e)) → r ≡ code (told (paperItem w) old)

@@ -7,5 +7,5 @@ use Rattle.body_items.specs.declared.Item.{Item}
 abbrev pub itemNumbers : Item → List ℕ
 itemNumbers i = i .start ∷ i .len ∷ []
 
-abbrev pub itemFields : Answer Item → Answer (List ℕ)
-itemFields a = andThen a (λ i. done (itemNumbers i))
+abbrev pub itemRun : Answer Item → Answer (List ℕ)
+itemRun a = andThen a (λ i. done (itemNumbers i))

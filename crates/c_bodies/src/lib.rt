@@ -17,7 +17,7 @@ ghost use Rattle.body_read.specs.Reads.{readBody};
 ghost use Rattle.body_items.specs.Items.{walkItem, bodyItem, paperItem};
 ghost use Rattle.body.specs.Joins.{joinOf, joinSize};
 ghost use Rattle.c_answers.specs.Codes.{code, filled, numbers};
-ghost use Rattle.c_bodies.specs.Fields.{itemFields};
+ghost use Rattle.c_bodies.specs.Fields.{itemRun};
 
 // The body of messages that lie end to end.
 #[no_mangle]
@@ -38,8 +38,8 @@ pub extern "C" fn bark_read_body(s: &[u8]) -> usize
 
 // What was read of an item, as two numbers.
 fn fill_item(w: ItemRead, fields: &mut [usize]) -> usize
-    ensures answer { λ r. ⌜ r ≡ code (withRoom (filled (itemFields (paperItem w))) (length (now (fields .entry)))) ⌝ }
-    ensures numbers { λ _. ⌜ now (fields .exit) ≡ written (withRoom (filled (itemFields (paperItem w))) (length (now (fields .entry)))) (numbers (itemFields (paperItem w))) (now (fields .entry)) ⌝ }
+    ensures answer { λ r. ⌜ r ≡ code (withRoom (filled (itemRun (paperItem w))) (length (now (fields .entry)))) ⌝ }
+    ensures numbers { λ _. ⌜ now (fields .exit) ≡ written (withRoom (filled (itemRun (paperItem w))) (length (now (fields .entry)))) (numbers (itemRun (paperItem w))) (now (fields .entry)) ⌝ }
 {
     match w {
         ItemRead::Refused(e) => refusal_answer(e),
@@ -50,8 +50,8 @@ fn fill_item(w: ItemRead, fields: &mut [usize]) -> usize
 // Where an item of a body starts, and its length.
 #[no_mangle]
 pub extern "C" fn bark_body_item(s: &[u8], index: usize, fields: &mut [usize]) -> usize
-    ensures answer { λ r. ⌜ r ≡ code (withRoom (filled (itemFields (bodyItem (now (s .entry)) index))) (length (now (fields .entry)))) ⌝ }
-    ensures numbers { λ _. ⌜ now (fields .exit) ≡ written (withRoom (filled (itemFields (bodyItem (now (s .entry)) index))) (length (now (fields .entry)))) (numbers (itemFields (bodyItem (now (s .entry)) index))) (now (fields .entry)) ⌝ }
+    ensures answer { λ r. ⌜ r ≡ code (withRoom (filled (itemRun (bodyItem (now (s .entry)) index))) (length (now (fields .entry)))) ⌝ }
+    ensures numbers { λ _. ⌜ now (fields .exit) ≡ written (withRoom (filled (itemRun (bodyItem (now (s .entry)) index))) (length (now (fields .entry)))) (numbers (itemRun (bodyItem (now (s .entry)) index))) (now (fields .entry)) ⌝ }
 {
     fill_item(body_item(s, index), fields)
 }
@@ -64,8 +64,8 @@ pub extern "C" fn bark_walk_item(
     index: usize,
     fields: &mut [usize],
 ) -> usize
-    ensures answer { λ r. ⌜ r ≡ code (withRoom (filled (itemFields (walkItem (now (s .entry)) items index))) (length (now (fields .entry)))) ⌝ }
-    ensures numbers { λ _. ⌜ now (fields .exit) ≡ written (withRoom (filled (itemFields (walkItem (now (s .entry)) items index))) (length (now (fields .entry)))) (numbers (itemFields (walkItem (now (s .entry)) items index))) (now (fields .entry)) ⌝ }
+    ensures answer { λ r. ⌜ r ≡ code (withRoom (filled (itemRun (walkItem (now (s .entry)) items index))) (length (now (fields .entry)))) ⌝ }
+    ensures numbers { λ _. ⌜ now (fields .exit) ≡ written (withRoom (filled (itemRun (walkItem (now (s .entry)) items index))) (length (now (fields .entry)))) (numbers (itemRun (walkItem (now (s .entry)) items index))) (now (fields .entry)) ⌝ }
 {
     fill_item(walk_item(s, items, index), fields)
 }

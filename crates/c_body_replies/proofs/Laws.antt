@@ -12,15 +12,15 @@ use Rattle.reply_header.specs.declared.ReplyRead.{ReplyRead}
 use Rattle.reply_header.specs.declared.ReplyRead.the-variants.{Found, Refused}
 use Rattle.c_answers.specs.Codes.{code, filled, numbers}
 use Rattle.c_reply_numbers.specs.Numbers.{replyNumbers}
-use Rattle.c_body_replies.specs.Fields.{replyFields}
+use Rattle.c_body_replies.specs.Fields.{replyRun}
 
 -- how many numbers there are, where there is room for them
 abbrev told : Answer MessageReply → List ℕ → Answer ℕ
-told a old = withRoom (filled (replyFields a)) (length old)
+told a old = withRoom (filled (replyRun a)) (length old)
 
 -- what the lent run holds then
 abbrev left : Answer MessageReply → List ℕ → List ℕ
-left a old = written (told a old) (numbers (replyFields a)) old
+left a old = written (told a old) (numbers (replyRun a)) old
 
 -- ---- a header as numbers
 module _ (w : ReplyRead) (old : List ℕ) where

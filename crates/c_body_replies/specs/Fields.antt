@@ -5,5 +5,5 @@ use Rattle.wire.specs.Answers.{Answer, done, andThen}
 use Rattle.reply_header.specs.declared.MessageReply.{MessageReply}
 use Rattle.c_reply_numbers.specs.Numbers.{replyNumbers}
 
-abbrev pub replyFields : Answer MessageReply → Answer (List ℕ)
-replyFields a = andThen a (λ m. done (replyNumbers m))
+abbrev pub replyRun : Answer MessageReply → Answer (List ℕ)
+replyRun a = andThen a (λ m. done (replyNumbers m))

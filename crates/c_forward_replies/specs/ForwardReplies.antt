@@ -36,8 +36,8 @@ failureNumbers m f =
 
 -- ---- a success: the header's numbers, 1, what names the connection; of an open its ids and packet intervals; start and length of the application data
 
-abbrev pub openedNumbers : MessageReply → ForwardOpenSuccess → ℕ → ℕ → List ℕ
-openedNumbers m o start len =
+abbrev pub openSuccessNumbers : MessageReply → ForwardOpenSuccess → ℕ → ℕ → List ℕ
+openSuccessNumbers m o start len =
     replyNumbers m
     ++ (1
     ∷ o .«connection_serial_number»
@@ -51,8 +51,8 @@ openedNumbers m o start len =
     ∷ len
     ∷ [])
 
-abbrev pub closedNumbers : MessageReply → ForwardCloseSuccess → ℕ → ℕ → List ℕ
-closedNumbers m c start len =
+abbrev pub closeSuccessNumbers : MessageReply → ForwardCloseSuccess → ℕ → ℕ → List ℕ
+closeSuccessNumbers m c start len =
     replyNumbers m
     ++ (1
     ∷ c .«connection_serial_number»
@@ -64,16 +64,16 @@ closedNumbers m c start len =
 
 -- ---- either reply
 
-abbrev pub openNumbers : Reply ForwardOpenSuccess → List ℕ
-openNumbers (succeeded m o start len) = openedNumbers m o start len
-openNumbers (failed m f) = failureNumbers m f
+abbrev pub openReplyNumbers : Reply ForwardOpenSuccess → List ℕ
+openReplyNumbers (succeeded m o start len) = openSuccessNumbers m o start len
+openReplyNumbers (failed m f) = failureNumbers m f
 
-abbrev pub closeNumbers : Reply ForwardCloseSuccess → List ℕ
-closeNumbers (succeeded m c start len) = closedNumbers m c start len
-closeNumbers (failed m f) = failureNumbers m f
+abbrev pub closeReplyNumbers : Reply ForwardCloseSuccess → List ℕ
+closeReplyNumbers (succeeded m c start len) = closeSuccessNumbers m c start len
+closeReplyNumbers (failed m f) = failureNumbers m f
 
-abbrev pub openReplyFields : Bool → List ℕ → Answer (List ℕ)
-openReplyFields routing s = andThen (readOpenReply routing s) (λ x. done (openNumbers x))
+abbrev pub openReplyRun : Bool → List ℕ → Answer (List ℕ)
+openReplyRun routing s = andThen (readOpenReply routing s) (λ x. done (openReplyNumbers x))
 
-abbrev pub closeReplyFields : Bool → List ℕ → Answer (List ℕ)
-closeReplyFields routing s = andThen (readCloseReply routing s) (λ x. done (closeNumbers x))
+abbrev pub closeReplyRun : Bool → List ℕ → Answer (List ℕ)
+closeReplyRun routing s = andThen (readCloseReply routing s) (λ x. done (closeReplyNumbers x))

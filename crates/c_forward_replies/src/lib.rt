@@ -15,7 +15,7 @@ ghost use mathlib.Core.Path.{_≡_};
 ghost use lib.ListN.{length};
 ghost use Rattle.wire.specs.Answers.{withRoom, written};
 ghost use Rattle.c_answers.specs.Codes.{code, filled, numbers};
-ghost use Rattle.c_forward_replies.specs.ForwardReplies.{hasRemaining, remainingOf, failureNumbers, openedNumbers, closedNumbers, openReplyFields, closeReplyFields};
+ghost use Rattle.c_forward_replies.specs.ForwardReplies.{hasRemaining, remainingOf, failureNumbers, openSuccessNumbers, closeSuccessNumbers, openReplyRun, closeReplyRun};
 
 // ---- what each reply holds, as numbers
 
@@ -75,7 +75,7 @@ fn failure_numbers(m: MessageReply, f: ForwardRequestFail) -> [usize; 12]
 
 // A Forward Open that was served.
 fn opened_numbers(m: MessageReply, o: ForwardOpenSuccess, start: usize, len: usize) -> [usize; 16]
-    ensures { λ r. ⌜ r ≡ openedNumbers m o start len ⌝ }
+    ensures { λ r. ⌜ r ≡ openSuccessNumbers m o start len ⌝ }
 {
     let h = reply_numbers(m);
     [
@@ -100,7 +100,7 @@ fn opened_numbers(m: MessageReply, o: ForwardOpenSuccess, start: usize, len: usi
 
 // A Forward Close that was served.
 fn closed_numbers(m: MessageReply, c: ForwardCloseSuccess, start: usize, len: usize) -> [usize; 12]
-    ensures { λ r. ⌜ r ≡ closedNumbers m c start len ⌝ }
+    ensures { λ r. ⌜ r ≡ closeSuccessNumbers m c start len ⌝ }
 {
     let h = reply_numbers(m);
     [
@@ -128,8 +128,8 @@ pub extern "C" fn bark_read_forward_open_reply(
     s: &[u8],
     fields: &mut [usize],
 ) -> usize
-    ensures answer { λ r. ⌜ r ≡ code (withRoom (filled (openReplyFields routing (now (s .entry)))) (length (now (fields .entry)))) ⌝ }
-    ensures numbers { λ _. ⌜ now (fields .exit) ≡ written (withRoom (filled (openReplyFields routing (now (s .entry)))) (length (now (fields .entry)))) (numbers (openReplyFields routing (now (s .entry)))) (now (fields .entry)) ⌝ }
+    ensures answer { λ r. ⌜ r ≡ code (withRoom (filled (openReplyRun routing (now (s .entry)))) (length (now (fields .entry)))) ⌝ }
+    ensures numbers { λ _. ⌜ now (fields .exit) ≡ written (withRoom (filled (openReplyRun routing (now (s .entry)))) (length (now (fields .entry)))) (numbers (openReplyRun routing (now (s .entry)))) (now (fields .entry)) ⌝ }
 {
     match read_forward_open_reply(routing, s) {
         OpenReplyRead::Refused(e) => refusal_answer(e),
@@ -145,8 +145,8 @@ pub extern "C" fn bark_read_forward_close_reply(
     s: &[u8],
     fields: &mut [usize],
 ) -> usize
-    ensures answer { λ r. ⌜ r ≡ code (withRoom (filled (closeReplyFields routing (now (s .entry)))) (length (now (fields .entry)))) ⌝ }
-    ensures numbers { λ _. ⌜ now (fields .exit) ≡ written (withRoom (filled (closeReplyFields routing (now (s .entry)))) (length (now (fields .entry)))) (numbers (closeReplyFields routing (now (s .entry)))) (now (fields .entry)) ⌝ }
+    ensures answer { λ r. ⌜ r ≡ code (withRoom (filled (closeReplyRun routing (now (s .entry)))) (length (now (fields .entry)))) ⌝ }
+    ensures numbers { λ _. ⌜ now (fields .exit) ≡ written (withRoom (filled (closeReplyRun routing (now (s .entry)))) (length (now (fields .entry)))) (numbers (closeReplyRun routing (now (s .entry)))) (now (fields .entry)) ⌝ }
 {
     match read_forward_close_reply(routing, s) {
         CloseReplyRead::Refused(e) => refusal_answer(e),

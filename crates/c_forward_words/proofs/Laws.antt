@@ -29,7 +29,7 @@ use Rattle.connection_words.specs.declared.TransportRead.{TransportRead}
 use Rattle.connection_words.specs.declared.TransportRead.the-variants.{Found as FoundTransport, Refused as NoTransport}
 use Rattle.c_answers.specs.Codes.{code, filled, numbers}
 use Rattle.c_answers.proofs.Laws.{read-kept}
-use Rattle.c_forward_words.specs.Words.{parametersFrom, encodedParameters, parameterNumbers, parameterFields, carrying, encodedTransport, carryingWith, transportNumbers, transportFields}
+use Rattle.c_forward_words.specs.Words.{parametersFrom, encodedParameters, parameterNumbers, parameterRun, carrying, encodedTransport, carryingWith, transportNumbers, transportRun}
 
 -- ---- a choice by a flag
 module _ (b : Bool) where
@@ -87,14 +87,14 @@ pub numbers-are : (p : ConnectionParameters) (o t v q : ℕ)
 numbers-are p o t v q a b c d = rw (a, b, c, d)
 
 module _ (large : Bool) (w : ℕ) (r : ParametersRead) (is : paperParameters r ≡ readParameters large w) where
-  pub parameters-stop : (e : Refusal) → r ≡ NoParameters e → parameterFields large w ≡ refused (number e)
+  pub parameters-stop : (e : Refusal) → r ≡ NoParameters e → parameterRun large w ≡ refused (number e)
   parameters-stop e h = sym (then-stops (readParameters large w) (λ p. done (parameterNumbers p)) (number e) (sym is ∙ ap paperParameters h))
 
   pub parameters-kept : (e : Refusal) → r ≡ NoParameters e → (old : List ℕ)
-      → old ≡ written (withRoom (filled (parameterFields large w)) (length old)) (numbers (parameterFields large w)) old
-  parameters-kept e h old = read-kept (parameterFields large w) old (number e) (parameters-stop e h)
+      → old ≡ written (withRoom (filled (parameterRun large w)) (length old)) (numbers (parameterRun large w)) old
+  parameters-kept e h old = read-kept (parameterRun large w) old (number e) (parameters-stop e h)
 
-  pub parameters-found : (p : ConnectionParameters) (n : List ℕ) → r ≡ FoundParameters p → n ≡ parameterNumbers p → parameterFields large w ≡ done n
+  pub parameters-found : (p : ConnectionParameters) (n : List ℕ) → r ≡ FoundParameters p → n ≡ parameterNumbers p → parameterRun large w ≡ done n
   parameters-found p n h e = then-done (readParameters large w) (λ p. done (parameterNumbers p)) p (sym is ∙ ap paperParameters h) ∙ ap done (sym e)
 
 pub ruleset decode-laws = (numbers-are, parameters-stop, parameters-kept, parameters-found)
@@ -126,15 +126,15 @@ pub three-are : (d : Direction) (t : TriggerType) (c : TransportClass) (a b e : 
 three-are d t c a b e x y z = rw (x, y, z)
 
 module _ (w : ℕ) (r : TransportRead) (is : paperTransport r ≡ readTransport w) where
-  pub transport-stop : (e : Refusal) → r ≡ NoTransport e → transportFields w ≡ refused (number e)
+  pub transport-stop : (e : Refusal) → r ≡ NoTransport e → transportRun w ≡ refused (number e)
   transport-stop e h = sym (then-stops (readTransport w) (λ t. done (transportNumbers t)) (number e) (sym is ∙ ap paperTransport h))
 
   pub transport-kept : (e : Refusal) → r ≡ NoTransport e → (old : List ℕ)
-      → old ≡ written (withRoom (filled (transportFields w)) (length old)) (numbers (transportFields w)) old
-  transport-kept e h old = read-kept (transportFields w) old (number e) (transport-stop e h)
+      → old ≡ written (withRoom (filled (transportRun w)) (length old)) (numbers (transportRun w)) old
+  transport-kept e h old = read-kept (transportRun w) old (number e) (transport-stop e h)
 
   pub transport-found : (d : Direction) (t : TriggerType) (c : TransportClass) (n : List ℕ) → r ≡ FoundTransport d t c → n ≡ transportNumbers (transport d t c)
-      → transportFields w ≡ done n
+      → transportRun w ≡ done n
   transport-found d t c n h e = then-done (readTransport w) (λ t. done (transportNumbers t)) (transport d t c) (sym is ∙ ap paperTransport h) ∙ ap done (sym e)
 
 pub ruleset transport-laws = (carrier-is, trigger-over, class-over, byte-is, three-are, transport-stop, transport-kept, transport-found)

@@ -38,8 +38,8 @@ parameterNumbers p =
     ∷ p .«connection_size»
     ∷ []
 
-abbrev pub parameterFields : Bool → ℕ → Answer (List ℕ)
-parameterFields large word = andThen (readParameters large word) (λ p. done (parameterNumbers p))
+abbrev pub parameterRun : Bool → ℕ → Answer (List ℕ)
+parameterRun large word = andThen (readParameters large word) (λ p. done (parameterNumbers p))
 
 -- ---- class and trigger
 
@@ -75,5 +75,5 @@ encodedTransport server trigger class =
 abbrev pub transportNumbers : Transport → List ℕ
 transportNumbers (transport d t c) = directionNumber d ∷ triggerNumber t ∷ classNumber c ∷ []
 
-abbrev pub transportFields : ℕ → Answer (List ℕ)
-transportFields b = andThen (readTransport b) (λ t. done (transportNumbers t))
+abbrev pub transportRun : ℕ → Answer (List ℕ)
+transportRun b = andThen (readTransport b) (λ t. done (transportNumbers t))

@@ -13,7 +13,7 @@ ghost use lib.ListN.{length};
 ghost use Rattle.wire.specs.Answers.{withRoom, written};
 ghost use Rattle.connection_words.specs.Fields.{paperWord};
 ghost use Rattle.c_answers.specs.Codes.{code, filled, numbers};
-ghost use Rattle.c_forward_words.specs.Words.{parametersFrom, encodedParameters, parameterNumbers, parameterFields};
+ghost use Rattle.c_forward_words.specs.Words.{parametersFrom, encodedParameters, parameterNumbers, parameterRun};
 
 // A word as a number.
 fn word_answer(w: Word) -> usize
@@ -92,8 +92,8 @@ fn parameter_numbers(p: ConnectionParameters) -> [usize; 5]
 // The connection parameters in a word.
 #[no_mangle]
 pub extern "C" fn bark_decode_parameters(large: bool, word: u32, fields: &mut [usize]) -> usize
-    ensures answer { λ r. ⌜ r ≡ code (withRoom (filled (parameterFields large word)) (length (now (fields .entry)))) ⌝ }
-    ensures numbers { λ _. ⌜ now (fields .exit) ≡ written (withRoom (filled (parameterFields large word)) (length (now (fields .entry)))) (numbers (parameterFields large word)) (now (fields .entry)) ⌝ }
+    ensures answer { λ r. ⌜ r ≡ code (withRoom (filled (parameterRun large word)) (length (now (fields .entry)))) ⌝ }
+    ensures numbers { λ _. ⌜ now (fields .exit) ≡ written (withRoom (filled (parameterRun large word)) (length (now (fields .entry)))) (numbers (parameterRun large word)) (now (fields .entry)) ⌝ }
 {
     match decode_parameters(large, word) {
         ParametersRead::Refused(e) => refusal_answer(e),

@@ -16,7 +16,7 @@ ghost use lib.ListN.{length};
 ghost use Rattle.wire.specs.Answers.{withRoom, written};
 ghost use Rattle.connection_words.specs.Fields.{transport};
 ghost use Rattle.c_answers.specs.Codes.{code, filled, numbers};
-ghost use Rattle.c_forward_words.specs.Words.{carrying, encodedTransport, transportNumbers, transportFields};
+ghost use Rattle.c_forward_words.specs.Words.{carrying, encodedTransport, transportNumbers, transportRun};
 
 // A record with these three; no other field of it stands in the byte.
 fn carrier(direction: Direction, trigger: TriggerType, class: TransportClass) -> OpenOptions
@@ -74,8 +74,8 @@ fn transport_numbers(d: Direction, t: TriggerType, c: TransportClass) -> [usize;
 // Direction, trigger and class in a byte.
 #[no_mangle]
 pub extern "C" fn bark_decode_transport(byte: u8, fields: &mut [usize]) -> usize
-    ensures answer { λ r. ⌜ r ≡ code (withRoom (filled (transportFields byte)) (length (now (fields .entry)))) ⌝ }
-    ensures numbers { λ _. ⌜ now (fields .exit) ≡ written (withRoom (filled (transportFields byte)) (length (now (fields .entry)))) (numbers (transportFields byte)) (now (fields .entry)) ⌝ }
+    ensures answer { λ r. ⌜ r ≡ code (withRoom (filled (transportRun byte)) (length (now (fields .entry)))) ⌝ }
+    ensures numbers { λ _. ⌜ now (fields .exit) ≡ written (withRoom (filled (transportRun byte)) (length (now (fields .entry)))) (numbers (transportRun byte)) (now (fields .entry)) ⌝ }
 {
     match transport_of(byte) {
         TransportRead::Refused(e) => refusal_answer(e),

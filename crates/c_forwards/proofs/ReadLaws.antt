@@ -5,7 +5,7 @@ use mathlib.Core.Bool.{Bool}
 use mathlib.Core.List.{List, [], _∷_}
 use lib.ListN.{length, take, drop}
 use Rattle.wire.specs.Refusals.{number}
-use Rattle.wire.specs.Answers.{Answer, done, refused, withRoom, written}
+use Rattle.wire.specs.Answers.{Answer, done, refused, withRoom, written, orZero}
 use Rattle.wire.specs.declared.Refusal.{Refusal}
 use Rattle.wire.proofs.Rules.{then-stops, then-done}
 use Rattle.connection.specs.Defaults.{defaultOptions}
@@ -22,7 +22,7 @@ use Rattle.forward_read.specs.declared.CloseRead.{CloseRead}
 use Rattle.forward_read.specs.declared.CloseRead.the-variants.{Found as FoundClose, Refused as NoClose}
 use Rattle.c_answers.specs.Codes.{code, filled, numbers}
 use Rattle.c_answers.proofs.Laws.{read-kept}
-use Rattle.c_forwards.specs.Forwards.{orZero, wordNumber, openedNumbers, openFields, defaultNumbers, closedNumbers, closeFields}
+use Rattle.c_forwards.specs.Forwards.{wordNumber, openedNumbers, openRun, defaultNumbers, closedNumbers, closeRun}
 
 -- ---- a parameter word
 module _ (large : Bool) (p : ConnectionParameters) (r : Word) (is : paperWord r ≡ parameterWord large p) where
@@ -43,15 +43,15 @@ open-numbers large o start len a b c d e f g h i j k l m pa pb pc pd pe pf pg ph
     rw (pa, pb, pc, pd, pe, pf, pg, ph, pi, pj, pk, pl, pm, px)
 
 module _ (large : Bool) (s : List ℕ) (r : OpenRead) (is : paperOpen r ≡ readOpen large s) where
-  pub open-stop : (e : Refusal) → r ≡ NoOpen e → openFields large s ≡ refused (number e)
+  pub open-stop : (e : Refusal) → r ≡ NoOpen e → openRun large s ≡ refused (number e)
   open-stop e h = sym (then-stops (readOpen large s) (λ x. done (openedNumbers large x)) (number e) (sym is ∙ ap paperOpen h))
 
   pub open-kept : (e : Refusal) → r ≡ NoOpen e → (old : List ℕ)
-      → old ≡ written (withRoom (filled (openFields large s)) (length old)) (numbers (openFields large s)) old
-  open-kept e h old = read-kept (openFields large s) old (number e) (open-stop e h)
+      → old ≡ written (withRoom (filled (openRun large s)) (length old)) (numbers (openRun large s)) old
+  open-kept e h old = read-kept (openRun large s) old (number e) (open-stop e h)
 
   pub open-found : (o : OpenOptions) (start len : ℕ) (n : List ℕ) → r ≡ FoundOpen o start len → n ≡ openedNumbers large (opened o start len)
-      → openFields large s ≡ done n
+      → openRun large s ≡ done n
   open-found o start len n h e = then-done (readOpen large s) (λ x. done (openedNumbers large x)) (opened o start len) (sym is ∙ ap paperOpen h) ∙ ap done (sym e)
 
 pub ruleset open-laws = (word-bits, word-none, open-numbers, open-stop, open-kept, open-found)
@@ -78,14 +78,14 @@ pub close-numbers : (q : ForwardCloseRequest) (start len a b c d e : ℕ)
 close-numbers q start len a b c d e pa pb pc pd pe = rw (pa, pb, pc, pd, pe)
 
 module _ (s : List ℕ) (r : CloseRead) (is : paperClose r ≡ readClose s) where
-  pub close-stop : (e : Refusal) → r ≡ NoClose e → closeFields s ≡ refused (number e)
+  pub close-stop : (e : Refusal) → r ≡ NoClose e → closeRun s ≡ refused (number e)
   close-stop e h = sym (then-stops (readClose s) (λ x. done (closedNumbers x)) (number e) (sym is ∙ ap paperClose h))
 
-  pub close-kept : (e : Refusal) → r ≡ NoClose e → (old : List ℕ) → old ≡ written (withRoom (filled (closeFields s)) (length old)) (numbers (closeFields s)) old
-  close-kept e h old = read-kept (closeFields s) old (number e) (close-stop e h)
+  pub close-kept : (e : Refusal) → r ≡ NoClose e → (old : List ℕ) → old ≡ written (withRoom (filled (closeRun s)) (length old)) (numbers (closeRun s)) old
+  close-kept e h old = read-kept (closeRun s) old (number e) (close-stop e h)
 
   pub close-found : (c : ForwardCloseRequest) (start len : ℕ) (n : List ℕ) → r ≡ FoundClose c start len → n ≡ closedNumbers (closed c start len)
-      → closeFields s ≡ done n
+      → closeRun s ≡ done n
   close-found c start len n h e = then-done (readClose s) (λ x. done (closedNumbers x)) (closed c start len) (sym is ∙ ap paperClose h) ∙ ap done (sym e)
 
 pub ruleset close-laws = (close-numbers, close-stop, close-kept, close-found)

@@ -30,21 +30,21 @@ use Rattle.forward_encode.specs.Over.{openAfter, openOverSize}
 use Rattle.route_written.specs.Written.{writtenRoute}
 use Rattle.route_written.proofs.WrittenLaws.{over-stops, over-goes}
 use Rattle.c_answers.specs.Codes.{code}
-use Rattle.c_forwards.specs.Writes.{Held, held, readWords, paperWords, openGiven, optionsWith, wordParts, optionsOf}
+use Rattle.c_forwards.specs.Writes.{OpenWords, openWords, readWords, paperWords, openGiven, optionsFrom, wordParts, optionsOf}
 use Rattle.c_forwards.specs.declared.Words.{Words}
 use Rattle.c_forwards.specs.declared.Words.the-variants.{Found, Refused as NoWords}
 
 -- ---- the words of a Forward Open
 module _ (large : Bool) (x y b : ℕ) (v : ParametersRead) (one : paperParameters v ≡ readParameters large x) where
-  afterFirst : ConnectionParameters → Answer Held
-  afterFirst p = andThen (readParameters large y) (λ q. andThen (readTransport b) (λ t. done (held p q t)))
+  afterFirst : ConnectionParameters → Answer OpenWords
+  afterFirst p = andThen (readParameters large y) (λ q. andThen (readTransport b) (λ t. done (openWords p q t)))
 
   pub words-first : (e : Refusal) → v ≡ NoParameters e → refused (number e) ≡ readWords large x y b
   unfolding readWords
   words-first e h = then-stops (readParameters large x) _ (number e) (sym one ∙ ap paperParameters h)
 
   module _ (p : ConnectionParameters) (f : v ≡ FoundParameters p) (w : ParametersRead) (two : paperParameters w ≡ readParameters large y) where
-    second : {z : Answer Held} → z ≡ afterFirst p → z ≡ readWords large x y b
+    second : {z : Answer OpenWords} → z ≡ afterFirst p → z ≡ readWords large x y b
     unfolding readWords afterFirst
     second {z} e = then-goes (readParameters large x) afterFirst p z (sym one ∙ ap paperParameters f) e
 
@@ -53,15 +53,15 @@ module _ (large : Bool) (x y b : ℕ) (v : ParametersRead) (one : paperParameter
     words-second e h = second (then-stops (readParameters large y) _ (number e) (sym two ∙ ap paperParameters h))
 
     module _ (q : ConnectionParameters) (g : w ≡ FoundParameters q) (u : TransportRead) (three : paperTransport u ≡ readTransport b) where
-      third : {z : Answer Held} → z ≡ andThen (readTransport b) (λ t. done (held p q t)) → z ≡ readWords large x y b
+      third : {z : Answer OpenWords} → z ≡ andThen (readTransport b) (λ t. done (openWords p q t)) → z ≡ readWords large x y b
       unfolding afterFirst
-      third {z} e = second (then-goes (readParameters large y) (λ k. andThen (readTransport b) (λ t. done (held p k t))) q z (sym two ∙ ap paperParameters g) e)
+      third {z} e = second (then-goes (readParameters large y) (λ k. andThen (readTransport b) (λ t. done (openWords p k t))) q z (sym two ∙ ap paperParameters g) e)
 
       pub words-third : (e : Refusal) → u ≡ NoTransport e → refused (number e) ≡ readWords large x y b
       words-third e h = third (then-stops (readTransport b) _ (number e) (sym three ∙ ap paperTransport h))
 
-      pub words-are : (d : Direction) (t : TriggerType) (c : TransportClass) → u ≡ FoundTransport d t c → done (held p q (transport d t c)) ≡ readWords large x y b
-      words-are d t c h = third (then-goes (readTransport b) (λ t. done (held p q t)) (transport d t c) (done (held p q (transport d t c))) (sym three ∙ ap paperTransport h) refl)
+      pub words-are : (d : Direction) (t : TriggerType) (c : TransportClass) → u ≡ FoundTransport d t c → done (openWords p q (transport d t c)) ≡ readWords large x y b
+      words-are d t c h = third (then-goes (readTransport b) (λ t. done (openWords p q t)) (transport d t c) (done (openWords p q (transport d t c))) (sym three ∙ ap paperTransport h) refl)
 
 pub ruleset words-laws = (words-first, words-second, words-third, words-are)
 
@@ -92,16 +92,16 @@ pub record Were (large : Bool) (x y b : ℕ) (p q : ConnectionParameters) (t : T
   pub second : readParameters large y ≡ done q
   pub third : readTransport b ≡ done t
 
-pub words-were : (large : Bool) (x y b : ℕ) (p q : ConnectionParameters) (t : Transport) → readWords large x y b ≡ done (held p q t) → Were large x y b p q t
+pub words-were : (large : Bool) (x y b : ℕ) (p q : ConnectionParameters) (t : Transport) → readWords large x y b ≡ done (openWords p q t) → Were large x y b p q t
 unfolding readWords
 words-were large x y b p q t h =
-    let u : Went (readParameters large x) (λ p. andThen (readParameters large y) (λ q. andThen (readTransport b) (λ t. done (held p q t)))) (held p q t) =
-    then-were (readParameters large x) (λ p. andThen (readParameters large y) (λ q. andThen (readTransport b) (λ t. done (held p q t)))) (held p q t) h in
-    let v : Went (readParameters large y) (λ q. andThen (readTransport b) (λ t. done (held (u .found) q t))) (held p q t) =
-    then-were (readParameters large y) (λ q. andThen (readTransport b) (λ t. done (held (u .found) q t))) (held p q t) (u .then) in
-    let w : Went (readTransport b) (λ t. done (held (u .found) (v .found) t)) (held p q t) =
-    then-were (readTransport b) (λ t. done (held (u .found) (v .found) t)) (held p q t) (v .then) in
-    let e : done (held (u .found) (v .found) (w .found)) ≡ done (held p q t) = w .then in
+    let u : Went (readParameters large x) (λ p. andThen (readParameters large y) (λ q. andThen (readTransport b) (λ t. done (openWords p q t)))) (openWords p q t) =
+    then-were (readParameters large x) (λ p. andThen (readParameters large y) (λ q. andThen (readTransport b) (λ t. done (openWords p q t)))) (openWords p q t) h in
+    let v : Went (readParameters large y) (λ q. andThen (readTransport b) (λ t. done (openWords (u .found) q t))) (openWords p q t) =
+    then-were (readParameters large y) (λ q. andThen (readTransport b) (λ t. done (openWords (u .found) q t))) (openWords p q t) (u .then) in
+    let w : Went (readTransport b) (λ t. done (openWords (u .found) (v .found) t)) (openWords p q t) =
+    then-were (readTransport b) (λ t. done (openWords (u .found) (v .found) t)) (openWords p q t) (v .then) in
+    let e : done (openWords (u .found) (v .found) (w .found)) ≡ done (openWords p q t) = w .then in
     let f : u .found ≡ p = cc in
     let g : v .found ≡ q = cc in
     let k : w .found ≡ t = cc in
@@ -148,12 +148,12 @@ module _ (path : List ℕ) (large : Bool) (priority ticks i j serial vendor orig
     (p q : ConnectionParameters) (d : Direction) (t : TriggerType) (c : TransportClass)
     (z : Words) (is : paperWords z ≡ readWords large x y b) (h : z ≡ Found p q d t c) where
   abbrev made : OpenOptions
-  made = optionsWith large priority ticks i j serial vendor originator multiplier m n p q d t c
+  made = optionsFrom large priority ticks i j serial vendor originator multiplier m n p q d t c
 
   abbrev asked : OpenOptions
   asked = optionsOf large priority ticks i j serial vendor originator multiplier m x n y b
 
-  good : readWords large x y b ≡ done (held p q (transport d t c))
+  good : readWords large x y b ≡ done (openWords p q (transport d t c))
   good = sym is ∙ ap paperWords h
 
   were : Were large x y b p q (transport d t c)
@@ -179,7 +179,7 @@ module _ (path : List ℕ) (large : Bool) (priority ticks i j serial vendor orig
   unfolding openOverSize openGiven
   size-is =
       then-same (writtenRoute path) (openAfter made) (λ k. andThen (readWords large x y b) (λ _. done (openBase large + k)))
-      (λ k. after k ∙ sym (then-done (readWords large x y b) (λ _. done (openBase large + k)) (held p q (transport d t c)) good))
+      (λ k. after k ∙ sym (then-done (readWords large x y b) (λ _. done (openBase large + k)) (openWords p q (transport d t c)) good))
 
   pub open-told : (w : Wrote) (r room : ℕ) → paperSize w ≡ withRoom (openOverSize path made) room → r ≡ code (paperSize w)
       → r ≡ code (withRoom (openGiven path large x y b) room)

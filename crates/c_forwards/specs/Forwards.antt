@@ -2,7 +2,7 @@
 use Prim.Native.Nat.{ℕ}
 use mathlib.Core.Bool.{Bool}
 use mathlib.Core.List.{List, [], _∷_, _++_}
-use Rattle.wire.specs.Answers.{Answer, done, refused, andThen}
+use Rattle.wire.specs.Answers.{Answer, done, refused, andThen, orZero}
 use Rattle.connection.specs.Defaults.{defaultOptions}
 use Rattle.connection.specs.declared.ConnectionParameters.{ConnectionParameters}
 use Rattle.connection.specs.declared.OpenOptions.{OpenOptions}
@@ -10,10 +10,6 @@ use Rattle.connection_words.specs.Fields.{parameterWord, classTrigger}
 use Rattle.forward_read.specs.Reads.{Opened, opened, readOpen, Closed, closed, readClose}
 
 -- ---- Forward Open
-
-abbrev pub orZero : Answer ℕ → ℕ
-orZero (done w) = w
-orZero (refused k) = 0
 
 -- parameters as their word; 0 where a word can't hold them
 abbrev pub wordNumber : Bool → ConnectionParameters → ℕ
@@ -41,8 +37,8 @@ openNumbers large o =
 abbrev pub openedNumbers : Bool → Opened → List ℕ
 openedNumbers large (opened o start len) = openNumbers large o ++ (start ∷ len ∷ [])
 
-abbrev pub openFields : Bool → List ℕ → Answer (List ℕ)
-openFields large s = andThen (readOpen large s) (λ x. done (openedNumbers large x))
+abbrev pub openRun : Bool → List ℕ → Answer (List ℕ)
+openRun large s = andThen (readOpen large s) (λ x. done (openedNumbers large x))
 
 abbrev pub defaultNumbers : Bool → ℕ → List ℕ
 defaultNumbers large serial = openNumbers large (defaultOptions serial)
@@ -60,5 +56,5 @@ closedNumbers (closed c start len) =
     ∷ len
     ∷ []
 
-abbrev pub closeFields : List ℕ → Answer (List ℕ)
-closeFields s = andThen (readClose s) (λ x. done (closedNumbers x))
+abbrev pub closeRun : List ℕ → Answer (List ℕ)
+closeRun s = andThen (readClose s) (λ x. done (closedNumbers x))

@@ -31,17 +31,17 @@ closeOf priority ticks serial vendor originator = record {
 -- ---- Forward Open
 
 -- what its words hold
-pub data Held : Type 0 where
-  held : ConnectionParameters → ConnectionParameters → Transport → Held
+pub data OpenWords : Type 0 where
+  openWords : ConnectionParameters → ConnectionParameters → Transport → OpenWords
 
-unfoldable pub readWords : Bool → ℕ → ℕ → ℕ → Answer Held
+unfoldable pub readWords : Bool → ℕ → ℕ → ℕ → Answer OpenWords
 readWords large toTarget toOriginator b =
     andThen (readParameters large toTarget) (λ p.
     andThen (readParameters large toOriginator) (λ q.
-    andThen (readTransport b) (λ t. done (held p q t))))
+    andThen (readTransport b) (λ t. done (openWords p q t))))
 
-abbrev pub paperWords : Words → Answer Held
-paperWords (Found p q d t c) = done (held p q (transport d t c))
+abbrev pub paperWords : Words → Answer OpenWords
+paperWords (Found p q d t c) = done (openWords p q (transport d t c))
 paperWords (Refused e) = refused (number e)
 
 -- the path's own refusal, then the words', else how many bytes there are
@@ -49,8 +49,8 @@ unfoldable pub openGiven : List ℕ → Bool → ℕ → ℕ → ℕ → Answer 
 openGiven path large toTarget toOriginator b =
     andThen (writtenRoute path) (λ n. andThen (readWords large toTarget toOriginator b) (λ _. done (openBase large + n)))
 
-abbrev pub optionsWith : Bool → ℕ → ℕ → ℕ → ℕ → ℕ → ℕ → ℕ → ℕ → ℕ → ℕ → ConnectionParameters → ConnectionParameters → Direction → TriggerType → TransportClass → OpenOptions
-optionsWith large priority ticks idToTarget idToOriginator serial vendor originator multiplier rpiToTarget rpiToOriginator p q d t c = record {
+abbrev pub optionsFrom : Bool → ℕ → ℕ → ℕ → ℕ → ℕ → ℕ → ℕ → ℕ → ℕ → ℕ → ConnectionParameters → ConnectionParameters → Direction → TriggerType → TransportClass → OpenOptions
+optionsFrom large priority ticks idToTarget idToOriginator serial vendor originator multiplier rpiToTarget rpiToOriginator p q d t c = record {
   «o_t_connection_id» = idToTarget;
   «t_o_connection_id» = idToOriginator;
   «priority_tick_time» = priority;
@@ -76,5 +76,5 @@ wordParts large word = parametersOf (word % unit large) (word / unit large)
 -- the record that the arguments make, in the order of the wire
 abbrev pub optionsOf : Bool → ℕ → ℕ → ℕ → ℕ → ℕ → ℕ → ℕ → ℕ → ℕ → ℕ → ℕ → ℕ → ℕ → OpenOptions
 optionsOf large priority ticks idToTarget idToOriginator serial vendor originator multiplier rpiToTarget toTarget rpiToOriginator toOriginator b =
-    optionsWith large priority ticks idToTarget idToOriginator serial vendor originator multiplier rpiToTarget rpiToOriginator
+    optionsFrom large priority ticks idToTarget idToOriginator serial vendor originator multiplier rpiToTarget rpiToOriginator
     (wordParts large toTarget) (wordParts large toOriginator) (directionOf (b / 128)) (triggerOf (b / 16 % 8)) (classOf (b % 16))

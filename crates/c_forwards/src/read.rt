@@ -17,7 +17,7 @@ ghost use lib.ListN.{length};
 ghost use Rattle.wire.specs.Answers.{done, withRoom, written};
 ghost use Rattle.forward_read.specs.Reads.{opened, closed};
 ghost use Rattle.c_answers.specs.Codes.{code, filled, numbers};
-ghost use Rattle.c_forwards.specs.Forwards.{wordNumber, openedNumbers, openFields, defaultNumbers, closedNumbers, closeFields};
+ghost use Rattle.c_forwards.specs.Forwards.{wordNumber, openedNumbers, openRun, defaultNumbers, closedNumbers, closeRun};
 
 fn wide8(x: u8) -> usize
     ensures { λ r. ⌜ r ≡ x ⌝ }
@@ -73,8 +73,8 @@ fn open_numbers(large: bool, o: OpenOptions, start: usize, len: usize) -> [usize
 // Reads a Forward Open of the form that the caller names.
 #[no_mangle]
 pub extern "C" fn bark_read_forward_open(large: bool, s: &[u8], fields: &mut [usize]) -> usize
-    ensures answer { λ r. ⌜ r ≡ code (withRoom (filled (openFields large (now (s .entry)))) (length (now (fields .entry)))) ⌝ }
-    ensures numbers { λ _. ⌜ now (fields .exit) ≡ written (withRoom (filled (openFields large (now (s .entry)))) (length (now (fields .entry)))) (numbers (openFields large (now (s .entry)))) (now (fields .entry)) ⌝ }
+    ensures answer { λ r. ⌜ r ≡ code (withRoom (filled (openRun large (now (s .entry)))) (length (now (fields .entry)))) ⌝ }
+    ensures numbers { λ _. ⌜ now (fields .exit) ≡ written (withRoom (filled (openRun large (now (s .entry)))) (length (now (fields .entry)))) (numbers (openRun large (now (s .entry)))) (now (fields .entry)) ⌝ }
 {
     match read_forward_open(large, s) {
         OpenRead::Refused(e) => refusal_answer(e),
@@ -118,8 +118,8 @@ fn close_numbers(c: ForwardCloseRequest, start: usize, len: usize) -> [usize; 7]
 // Reads a Forward Close.
 #[no_mangle]
 pub extern "C" fn bark_read_forward_close(s: &[u8], fields: &mut [usize]) -> usize
-    ensures answer { λ r. ⌜ r ≡ code (withRoom (filled (closeFields (now (s .entry)))) (length (now (fields .entry)))) ⌝ }
-    ensures numbers { λ _. ⌜ now (fields .exit) ≡ written (withRoom (filled (closeFields (now (s .entry)))) (length (now (fields .entry)))) (numbers (closeFields (now (s .entry)))) (now (fields .entry)) ⌝ }
+    ensures answer { λ r. ⌜ r ≡ code (withRoom (filled (closeRun (now (s .entry)))) (length (now (fields .entry)))) ⌝ }
+    ensures numbers { λ _. ⌜ now (fields .exit) ≡ written (withRoom (filled (closeRun (now (s .entry)))) (length (now (fields .entry)))) (numbers (closeRun (now (s .entry)))) (now (fields .entry)) ⌝ }
 {
     match read_forward_close(s) {
         CloseRead::Refused(e) => refusal_answer(e),

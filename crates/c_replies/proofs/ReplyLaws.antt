@@ -21,30 +21,30 @@ use Rattle.envelope.specs.declared.EnvelopeRead.the-variants.{Unconnected, Conn
 use Rattle.c_answers.specs.Codes.{code, filled, numbers}
 use Rattle.c_answers.proofs.Laws.{read-refused, read-kept, read-answer, read-stored}
 use Rattle.c_reply_numbers.specs.Numbers.{replyNumbers}
-use Rattle.c_replies.specs.Replies.{replyFields, statusOf, heldNumbers, envelopeFields}
+use Rattle.c_replies.specs.Replies.{headerRun, statusOf, heldNumbers, envelopeRun}
 
 -- ---- a header
 module _ (s old : List ℕ) (w : ReplyRead) (is : paperReply w ≡ readHeader s) where
   module _ (e : Refusal) (h : w ≡ Refused e) where
-    none : replyFields s ≡ refused (number e)
+    none : headerRun s ≡ refused (number e)
     none = sym (then-stops (readHeader s) (λ m. done (replyNumbers m)) (number e) (sym is ∙ ap paperReply h))
 
-    pub reply-refused : (r : ℕ) → r ≡ code (refused (number e)) → r ≡ code (withRoom (filled (replyFields s)) (length old))
-    reply-refused r = read-refused (replyFields s) old (number e) r none
+    pub reply-refused : (r : ℕ) → r ≡ code (refused (number e)) → r ≡ code (withRoom (filled (headerRun s)) (length old))
+    reply-refused r = read-refused (headerRun s) old (number e) r none
 
-    pub reply-kept : old ≡ written (withRoom (filled (replyFields s)) (length old)) (numbers (replyFields s)) old
-    reply-kept = read-kept (replyFields s) old (number e) none
+    pub reply-kept : old ≡ written (withRoom (filled (headerRun s)) (length old)) (numbers (headerRun s)) old
+    reply-kept = read-kept (headerRun s) old (number e) none
 
   module _ (m : MessageReply) (h : w ≡ Found m) (src : List ℕ) (n : src ≡ replyNumbers m) where
-    some : replyFields s ≡ done src
+    some : headerRun s ≡ done src
     some = sym (then-goes (readHeader s) (λ m. done (replyNumbers m)) m (done src) (sym is ∙ ap paperReply h) (ap done n))
 
-    pub reply-answer : (r : ℕ) → r ≡ code (withRoom (done (length src)) (length old)) → r ≡ code (withRoom (filled (replyFields s)) (length old))
-    reply-answer r = read-answer (replyFields s) old src r some
+    pub reply-answer : (r : ℕ) → r ≡ code (withRoom (done (length src)) (length old)) → r ≡ code (withRoom (filled (headerRun s)) (length old))
+    reply-answer r = read-answer (headerRun s) old src r some
 
     pub reply-stored : (new : List ℕ) → new ≡ written (withRoom (done (length src)) (length old)) src old
-        → new ≡ written (withRoom (filled (replyFields s)) (length old)) (numbers (replyFields s)) old
-    reply-stored new = read-stored (replyFields s) old src new some
+        → new ≡ written (withRoom (filled (headerRun s)) (length old)) (numbers (headerRun s)) old
+    reply-stored new = read-stored (headerRun s) old src new some
 
 pub ruleset reply-laws = (reply-refused, reply-kept, reply-answer, reply-stored)
 
@@ -65,32 +65,32 @@ routing-is general hasWord word status r h e = e ∙ ap isRoutingError h
 -- ---- an envelope
 module _ (s old : List ℕ) (w : EnvelopeRead) (is : paperEnvelope w ≡ readEnvelope s) where
   module _ (e : Refusal) (h : w ≡ NoEnvelope e) where
-    nothing : envelopeFields s ≡ refused (number e)
+    nothing : envelopeRun s ≡ refused (number e)
     nothing = sym (then-stops (readEnvelope s) (λ x. done (heldNumbers x)) (number e) (sym is ∙ ap paperEnvelope h))
 
-    pub envelope-refused : (r : ℕ) → r ≡ code (refused (number e)) → r ≡ code (withRoom (filled (envelopeFields s)) (length old))
-    envelope-refused r = read-refused (envelopeFields s) old (number e) r nothing
+    pub envelope-refused : (r : ℕ) → r ≡ code (refused (number e)) → r ≡ code (withRoom (filled (envelopeRun s)) (length old))
+    envelope-refused r = read-refused (envelopeRun s) old (number e) r nothing
 
-    pub envelope-kept : old ≡ written (withRoom (filled (envelopeFields s)) (length old)) (numbers (envelopeFields s)) old
-    envelope-kept = read-kept (envelopeFields s) old (number e) nothing
+    pub envelope-kept : old ≡ written (withRoom (filled (envelopeRun s)) (length old)) (numbers (envelopeRun s)) old
+    envelope-kept = read-kept (envelopeRun s) old (number e) nothing
 
   module _ (x : Held) (h : paperEnvelope w ≡ done x) (src : List ℕ) (n : src ≡ heldNumbers x) where
-    something : envelopeFields s ≡ done src
+    something : envelopeRun s ≡ done src
     something = sym (then-goes (readEnvelope s) (λ x. done (heldNumbers x)) x (done src) (sym is ∙ h) (ap done n))
 
-    held-answer : (r : ℕ) → r ≡ code (withRoom (done (length src)) (length old)) → r ≡ code (withRoom (filled (envelopeFields s)) (length old))
-    held-answer r = read-answer (envelopeFields s) old src r something
+    held-answer : (r : ℕ) → r ≡ code (withRoom (done (length src)) (length old)) → r ≡ code (withRoom (filled (envelopeRun s)) (length old))
+    held-answer r = read-answer (envelopeRun s) old src r something
 
     held-stored : (new : List ℕ) → new ≡ written (withRoom (done (length src)) (length old)) src old
-        → new ≡ written (withRoom (filled (envelopeFields s)) (length old)) (numbers (envelopeFields s)) old
-    held-stored new = read-stored (envelopeFields s) old src new something
+        → new ≡ written (withRoom (filled (envelopeRun s)) (length old)) (numbers (envelopeRun s)) old
+    held-stored new = read-stored (envelopeRun s) old src new something
 
   module _ (k n : ℕ) (h : w ≡ Unconnected k n) (src : List ℕ) (l : src ≡ heldNumbers (unconnected k n)) where
-    pub unconnected-answer : (r : ℕ) → r ≡ code (withRoom (done (length src)) (length old)) → r ≡ code (withRoom (filled (envelopeFields s)) (length old))
+    pub unconnected-answer : (r : ℕ) → r ≡ code (withRoom (done (length src)) (length old)) → r ≡ code (withRoom (filled (envelopeRun s)) (length old))
     unconnected-answer = held-answer (unconnected k n) (ap paperEnvelope h) src l
 
     pub unconnected-stored : (new : List ℕ) → new ≡ written (withRoom (done (length src)) (length old)) src old
-        → new ≡ written (withRoom (filled (envelopeFields s)) (length old)) (numbers (envelopeFields s)) old
+        → new ≡ written (withRoom (filled (envelopeRun s)) (length old)) (numbers (envelopeRun s)) old
     unconnected-stored = held-stored (unconnected k n) (ap paperEnvelope h) src l
 
   -- its count is told as v
@@ -101,11 +101,11 @@ module _ (s old : List ℕ) (w : EnvelopeRead) (is : paperEnvelope w ≡ readEnv
     same-numbers : told ≡ heldNumbers (connected c k n)
     same-numbers = ap (λ (x : ℕ). heldNumbers (connected x k n)) l
 
-    pub connected-answer : (r : ℕ) → r ≡ code (withRoom (done (length told)) (length old)) → r ≡ code (withRoom (filled (envelopeFields s)) (length old))
+    pub connected-answer : (r : ℕ) → r ≡ code (withRoom (done (length told)) (length old)) → r ≡ code (withRoom (filled (envelopeRun s)) (length old))
     connected-answer = held-answer (connected c k n) (ap paperEnvelope h) told same-numbers
 
     pub connected-stored : (new : List ℕ) → new ≡ written (withRoom (done (length told)) (length old)) told old
-        → new ≡ written (withRoom (filled (envelopeFields s)) (length old)) (numbers (envelopeFields s)) old
+        → new ≡ written (withRoom (filled (envelopeRun s)) (length old)) (numbers (envelopeRun s)) old
     connected-stored = held-stored (connected c k n) (ap paperEnvelope h) told same-numbers
 
 pub ruleset envelope-laws = (envelope-refused, envelope-kept, unconnected-answer, unconnected-stored, connected-answer, connected-stored)

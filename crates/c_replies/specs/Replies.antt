@@ -10,8 +10,8 @@ use Rattle.reply_header.specs.declared.Status.{Status}
 use Rattle.c_reply_numbers.specs.Numbers.{replyNumbers}
 use Rattle.envelope.specs.Envelopes.{Held, unconnected, connected, readEnvelope}
 
-abbrev pub replyFields : List ℕ → Answer (List ℕ)
-replyFields s = andThen (readHeader s) (λ m. done (replyNumbers m))
+abbrev pub headerRun : List ℕ → Answer (List ℕ)
+headerRun s = andThen (readHeader s) (λ m. done (replyNumbers m))
 
 -- a status of numbers: the word counts only where there is one
 abbrev pub extendedOf : Bool → ℕ → ExtendedStatus
@@ -26,5 +26,5 @@ abbrev pub heldNumbers : Held → List ℕ
 heldNumbers (unconnected start len) = 0 ∷ 0 ∷ start ∷ len ∷ []
 heldNumbers (connected count start len) = 1 ∷ count ∷ start ∷ len ∷ []
 
-abbrev pub envelopeFields : List ℕ → Answer (List ℕ)
-envelopeFields s = andThen (readEnvelope s) (λ h. done (heldNumbers h))
+abbrev pub envelopeRun : List ℕ → Answer (List ℕ)
+envelopeRun s = andThen (readEnvelope s) (λ h. done (heldNumbers h))

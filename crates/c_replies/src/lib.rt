@@ -14,13 +14,13 @@ ghost use lib.ListN.{length};
 ghost use Rattle.wire.specs.Answers.{withRoom, written};
 ghost use Rattle.reply_header.specs.Statuses.{isRoutingError};
 ghost use Rattle.c_answers.specs.Codes.{code, filled, numbers};
-ghost use Rattle.c_replies.specs.Replies.{replyFields, statusOf, envelopeFields};
+ghost use Rattle.c_replies.specs.Replies.{headerRun, statusOf, envelopeRun};
 
 // Reads a reply's header.
 #[no_mangle]
 pub extern "C" fn bark_read_reply(s: &[u8], fields: &mut [usize]) -> usize
-    ensures answer { λ r. ⌜ r ≡ code (withRoom (filled (replyFields (now (s .entry)))) (length (now (fields .entry)))) ⌝ }
-    ensures numbers { λ _. ⌜ now (fields .exit) ≡ written (withRoom (filled (replyFields (now (s .entry)))) (length (now (fields .entry)))) (numbers (replyFields (now (s .entry)))) (now (fields .entry)) ⌝ }
+    ensures answer { λ r. ⌜ r ≡ code (withRoom (filled (headerRun (now (s .entry)))) (length (now (fields .entry)))) ⌝ }
+    ensures numbers { λ _. ⌜ now (fields .exit) ≡ written (withRoom (filled (headerRun (now (s .entry)))) (length (now (fields .entry)))) (numbers (headerRun (now (s .entry)))) (now (fields .entry)) ⌝ }
 {
     match read_reply_header(s) {
         ReplyRead::Refused(e) => refusal_answer(e),
@@ -62,8 +62,8 @@ fn wide(x: u16) -> usize
 // Reads the two-item envelope.
 #[no_mangle]
 pub extern "C" fn bark_read_envelope(s: &[u8], fields: &mut [usize]) -> usize
-    ensures answer { λ r. ⌜ r ≡ code (withRoom (filled (envelopeFields (now (s .entry)))) (length (now (fields .entry)))) ⌝ }
-    ensures numbers { λ _. ⌜ now (fields .exit) ≡ written (withRoom (filled (envelopeFields (now (s .entry)))) (length (now (fields .entry)))) (numbers (envelopeFields (now (s .entry)))) (now (fields .entry)) ⌝ }
+    ensures answer { λ r. ⌜ r ≡ code (withRoom (filled (envelopeRun (now (s .entry)))) (length (now (fields .entry)))) ⌝ }
+    ensures numbers { λ _. ⌜ now (fields .exit) ≡ written (withRoom (filled (envelopeRun (now (s .entry)))) (length (now (fields .entry)))) (numbers (envelopeRun (now (s .entry)))) (now (fields .entry)) ⌝ }
 {
     match read_envelope(s) {
         EnvelopeRead::Refused(e) => refusal_answer(e),

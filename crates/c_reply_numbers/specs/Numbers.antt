@@ -6,22 +6,22 @@ use Rattle.reply_header.specs.declared.ExtendedStatus.the-variants.{Absent, Wor
 use Rattle.reply_header.specs.declared.MessageReply.{MessageReply}
 
 -- words of extended status
-abbrev pub wordsOf : ExtendedStatus → ℕ
-wordsOf Absent = 0
-wordsOf (Word w) = 1
+abbrev pub extendedWords : ExtendedStatus → ℕ
+extendedWords Absent = 0
+extendedWords (Word w) = 1
 
 -- that word, 0 if there is none
-abbrev pub wordOf : ExtendedStatus → ℕ
-wordOf Absent = 0
-wordOf (Word w) = w
+abbrev pub extendedWord : ExtendedStatus → ℕ
+extendedWord Absent = 0
+extendedWord (Word w) = w
 
 -- service, general status, words of extended status and that word, start and length of the data
 abbrev pub replyNumbers : MessageReply → List ℕ
 replyNumbers m =
     m .«reply_service»
     ∷ m .status .general
-    ∷ wordsOf (m .status .extended)
-    ∷ wordOf (m .status .extended)
+    ∷ extendedWords (m .status .extended)
+    ∷ extendedWord (m .status .extended)
     ∷ m .«data_start»
     ∷ m .«data_len»
     ∷ []

@@ -2,11 +2,11 @@
 use reply_header::ExtendedStatus;
 use reply_header::MessageReply;
 ghost use mathlib.Core.Path.{_≡_};
-ghost use Rattle.c_reply_numbers.specs.Numbers.{wordsOf, wordOf, replyNumbers};
+ghost use Rattle.c_reply_numbers.specs.Numbers.{extendedWords, extendedWord, replyNumbers};
 
 // Words of extended status.
 fn words_of(extended: ExtendedStatus) -> usize
-    ensures { λ r. ⌜ r ≡ wordsOf extended ⌝ }
+    ensures { λ r. ⌜ r ≡ extendedWords extended ⌝ }
 {
     match extended {
         ExtendedStatus::Absent => 0,
@@ -16,7 +16,7 @@ fn words_of(extended: ExtendedStatus) -> usize
 
 // That word, 0 if there is none.
 fn word_of(extended: ExtendedStatus) -> usize
-    ensures { λ r. ⌜ r ≡ wordOf extended ⌝ }
+    ensures { λ r. ⌜ r ≡ extendedWord extended ⌝ }
 {
     match extended {
         ExtendedStatus::Absent => 0,

@@ -20,7 +20,7 @@ use Rattle.body_read.specs.Reads.{readBody}
 use Rattle.body_replies.specs.Replies.{walkReply}
 use Rattle.c_answers.specs.Codes.{code}
 use Rattle.c_reply_numbers.specs.Numbers.{replyNumbers}
-use Rattle.c_reply_walk.specs.Rows.{rowSize, replyRow, rowsFrom, rowsAnswer, rowsIn, replyRows}
+use Rattle.c_reply_walk.specs.Rows.{replyRowSize, replyRow, rowsFrom, rowsAnswer, rowsIn, replyRows}
 
 -- ---- a row
 
@@ -31,7 +31,7 @@ six-are l h =
     let none : drop 6 l ≡ [] = drop-of-length-le l {i = 6} (omega arith) in
     rw (← none, from 5 (omega arith), from 4 (omega arith), from 3 (omega arith), from 2 (omega arith), from 1 (omega arith), from 0 (omega arith))
 
-pub seven-stores : (l six : List ℕ) (at v : ℕ) → rowSize ≡ 1 + length six
+pub seven-stores : (l six : List ℕ) (at v : ℕ) → replyRowSize ≡ 1 + length six
     → set (set (set (set (set (set (set l at v) (at + 1) (getD six 0 0)) (at + 2) (getD six 1 0)) (at + 3) (getD six 2 0)) (at + 4) (getD six 3 0)) (at + 5) (getD six 4 0)) (at + 6) (getD six 5 0)
     ≡ sets l at (v ∷ six)
 seven-stores l six at v h =
@@ -56,18 +56,18 @@ module _ (old new : List ℕ) (at : ℕ) (w : ReplyRead) where
   reply-yes m six h f g = g ∙ rw (h, f)
 
 -- a header has one number less than a row
-pub six-numbers : (m : MessageReply) (six : List ℕ) → six ≡ replyNumbers m → rowSize ≡ 1 + length six
+pub six-numbers : (m : MessageReply) (six : List ℕ) → six ≡ replyNumbers m → replyRowSize ≡ 1 + length six
 six-numbers m six e = omega (arith, ap length e)
 
 pub ruleset reply-laws = (reply-no, reply-yes, six-numbers)
 
 -- ---- the loop: what is stored, and then what is left, is all rows
 
-pub row-length : (a : Answer MessageReply) → length (replyRow a) ≡ rowSize
+pub row-length : (a : Answer MessageReply) → length (replyRow a) ≡ replyRowSize
 row-length (done m) = refl
 row-length (refused k) = refl
 
-pub rows-length : (m : ℕ) (s : List ℕ) (n k : ℕ) → length (rowsFrom m s n k) ≡ rowSize * m
+pub rows-length : (m : ℕ) (s : List ℕ) (n k : ℕ) → length (rowsFrom m s n k) ≡ replyRowSize * m
 rows-length zero s n k = refl
 rows-length (suc m) s n k =
     length-append (replyRow (walkReply s n k)) (rowsFrom m s n (k + 1)) ∙ omega (arith, row-length (walkReply s n k), rows-length m s n (k + 1))
@@ -76,37 +76,37 @@ module _ (s : List ℕ) (n : ℕ) (old : List ℕ) where
   pub record Turn (rows : List ℕ) (k : ℕ) : Type 0 where
     pub most : k ≤ n
     pub same : length rows ≡ length old
-    pub rest : sets rows (rowSize * k) (rowsFrom (n - k) s n k) ≡ sets old 0 (rowsFrom n s n 0)
+    pub rest : sets rows (replyRowSize * k) (rowsFrom (n - k) s n k) ≡ sets old 0 (rowsFrom n s n 0)
 
   pub turn-first : Turn old 0
   turn-first = let e : n - 0 ≡ n = omega arith in record { most = omega arith; same = refl; rest = rw e }
 
   module _ (rows : List ℕ) (k : ℕ) (t : Turn rows k) where
-    pub turn-place : rowSize * n ≤ length old → k < n → rowSize * k + rowSize ≤ length rows
+    pub turn-place : replyRowSize * n ≤ length old → k < n → replyRowSize * k + replyRowSize ≤ length rows
     turn-place h l = omega (arith, t .same)
 
-    pub turn-goes : (w : ReplyRead) (new : List ℕ) → k < n → paperReply w ≡ walkReply s n k → new ≡ sets rows (rowSize * k) (replyRow (paperReply w)) → Turn new (k + 1)
+    pub turn-goes : (w : ReplyRead) (new : List ℕ) → k < n → paperReply w ≡ walkReply s n k → new ≡ sets rows (replyRowSize * k) (replyRow (paperReply w)) → Turn new (k + 1)
     turn-goes w new l is e =
         let a : List ℕ = replyRow (walkReply s n k) in
         let b : List ℕ = rowsFrom (n - (k + 1)) s n (k + 1) in
-        let f : new ≡ sets rows (rowSize * k) a = e ∙ ap (λ (x : Answer MessageReply). sets rows (rowSize * k) (replyRow x)) is in
-        let p : rowSize * (k + 1) ≡ rowSize * k + length a = omega (arith, row-length (walkReply s n k)) in
+        let f : new ≡ sets rows (replyRowSize * k) a = e ∙ ap (λ (x : Answer MessageReply). sets rows (replyRowSize * k) (replyRow x)) is in
+        let p : replyRowSize * (k + 1) ≡ replyRowSize * k + length a = omega (arith, row-length (walkReply s n k)) in
         let q : suc (n - (k + 1)) ≡ n - k = omega arith in
         record {
           most = omega arith;
-          same = ap length f ∙ length-sets rows (rowSize * k) a ∙ t .same;
+          same = ap length f ∙ length-sets rows (replyRowSize * k) a ∙ t .same;
           rest =
               ap (λ (i : ℕ). sets new i b) p
-              ∙ ap (λ (x : List ℕ). sets x (rowSize * k + length a) b) f
-              ∙ sets-append rows a b (rowSize * k)
-              ∙ ap (λ (m : ℕ). sets rows (rowSize * k) (rowsFrom m s n k)) q
+              ∙ ap (λ (x : List ℕ). sets x (replyRowSize * k + length a) b) f
+              ∙ sets-append rows a b (replyRowSize * k)
+              ∙ ap (λ (m : ℕ). sets rows (replyRowSize * k) (rowsFrom m s n k)) q
               ∙ t .rest;
         }
 
     pub turn-ends : n ≤ k → rows ≡ sets old 0 (rowsFrom n s n 0)
     turn-ends h =
         let z : 0 ≡ n - k = omega arith in
-        ap (λ (m : ℕ). sets rows (rowSize * k) (rowsFrom m s n k)) z ∙ t .rest
+        ap (λ (m : ℕ). sets rows (replyRowSize * k) (rowsFrom m s n k)) z ∙ t .rest
 
 pub ruleset turn-laws = (turn-first, turn-place, turn-goes, turn-ends)
 
@@ -115,7 +115,7 @@ module _ (s old : List ℕ) (w : Counted) (is : paperCount w ≡ readBody s) whe
   module _ (e : Refusal) (h : w ≡ NotCounted e) where
     no-body : refused (number e) ≡ rowsAnswer s (length old)
     unfolding rowsAnswer
-    no-body = then-stops (readBody s) (λ n. judged (under (length old) (rowSize * n) 2 ∷ []) (done n)) (number e) (sym is ∙ ap paperCount h)
+    no-body = then-stops (readBody s) (λ n. judged (under (length old) (replyRowSize * n) 2 ∷ []) (done n)) (number e) (sym is ∙ ap paperCount h)
 
     pub refused-answer : (r : ℕ) → r ≡ code (refused (number e)) → r ≡ code (rowsAnswer s (length old))
     refused-answer r f = f ∙ ap code no-body
@@ -127,13 +127,13 @@ module _ (s old : List ℕ) (w : Counted) (is : paperCount w ≡ readBody s) whe
     body : readBody s ≡ done n
     body = sym is ∙ ap paperCount h
 
-    goes : (z : Answer ℕ) → z ≡ judged (under (length old) (rowSize * n) 2 ∷ []) (done n) → z ≡ rowsAnswer s (length old)
+    goes : (z : Answer ℕ) → z ≡ judged (under (length old) (replyRowSize * n) 2 ∷ []) (done n) → z ≡ rowsAnswer s (length old)
     unfolding rowsAnswer
-    goes z e = then-goes (readBody s) (λ n. judged (under (length old) (rowSize * n) 2 ∷ []) (done n)) n z body e
+    goes z e = then-goes (readBody s) (λ n. judged (under (length old) (replyRowSize * n) 2 ∷ []) (done n)) n z body e
 
-    module _ (l : length old / rowSize < n) where
+    module _ (l : length old / replyRowSize < n) where
       full : refused 2 ≡ rowsAnswer s (length old)
-      full = let k : length old < rowSize * n = omega arith in goes (refused 2) (search rules)
+      full = let k : length old < replyRowSize * n = omega arith in goes (refused 2) (search rules)
 
       pub full-answer : (r : ℕ) → r ≡ code (refused 2) → r ≡ code (rowsAnswer s (length old))
       full-answer r f = f ∙ ap code full
@@ -141,12 +141,12 @@ module _ (s old : List ℕ) (w : Counted) (is : paperCount w ≡ readBody s) whe
       pub full-rows : old ≡ written (rowsAnswer s (length old)) (replyRows s) old
       full-rows = ap (λ (x : Answer ℕ). written x (replyRows s) old) full
 
-    module _ (l : n ≤ length old / rowSize) where
-      pub rows-fit : rowSize * n ≤ length old
+    module _ (l : n ≤ length old / replyRowSize) where
+      pub rows-fit : replyRowSize * n ≤ length old
       rows-fit = omega arith
 
       enough : done n ≡ rowsAnswer s (length old)
-      enough = let k : rowSize * n ≤ length old = rows-fit in goes (done n) (search rules)
+      enough = let k : replyRowSize * n ≤ length old = rows-fit in goes (done n) (search rules)
 
       pub all-answer : n ≡ code (rowsAnswer s (length old))
       all-answer = ap code enough

@@ -7,8 +7,8 @@ use Rattle.body_read.specs.Reads.{readBody}
 use Rattle.body_replies.specs.Replies.{walkReply}
 use Rattle.c_reply_numbers.specs.Numbers.{replyNumbers}
 
-abbrev pub rowSize : ℕ
-rowSize = 7
+abbrev pub replyRowSize : ℕ
+replyRowSize = 7
 
 -- 0 and the header's six numbers; or the refusal's number and six zeros
 abbrev pub replyRow : Answer MessageReply → List ℕ
@@ -22,7 +22,7 @@ rowsFrom (suc m) s n k = replyRow (walkReply s n k) ++ rowsFrom m s n (k + 1)
 
 -- how many items there are: the body's own refusal, then 2 where a row has no place
 unfoldable pub rowsAnswer : List ℕ → ℕ → Answer ℕ
-rowsAnswer s room = andThen (readBody s) (λ n. judged (under room (rowSize * n) 2 ∷ []) (done n))
+rowsAnswer s room = andThen (readBody s) (λ n. judged (under room (replyRowSize * n) 2 ∷ []) (done n))
 
 -- a row for each, of a body of n items
 abbrev pub rowsIn : Answer ℕ → List ℕ → List ℕ

@@ -15,14 +15,14 @@ ghost use lib.Seq.{sets};
 ghost use Rattle.wire.specs.Answers.{written};
 ghost use Rattle.reply_header.specs.Headers.{paperReply};
 ghost use Rattle.c_answers.specs.Codes.{code};
-ghost use Rattle.c_reply_walk.specs.Rows.{rowSize, replyRow, rowsFrom, rowsAnswer, replyRows};
+ghost use Rattle.c_reply_walk.specs.Rows.{replyRowSize, replyRow, rowsFrom, rowsAnswer, replyRows};
 
 // Numbers of a row: a refusal's number, 0 if there is none, and the six of a reply's header.
 const ROW: usize = 7;
 
 // Stores a row at a place.
 fn put_row(rows: &mut [usize], at: usize, refusal: usize, six: &[usize; 6])
-    requires { ⌜ (at + rowSize ≤ length (now rows)) × (rowSize ≡ 1 + length (now six)) ⌝ }
+    requires { ⌜ (at + replyRowSize ≤ length (now rows)) × (replyRowSize ≡ 1 + length (now six)) ⌝ }
     ensures { λ _. ⌜ now (rows .exit) ≡ sets (now (rows .entry)) at (refusal ∷ now (six .entry)) ⌝ }
 {
     rows[at] = refusal;
@@ -36,7 +36,7 @@ fn put_row(rows: &mut [usize], at: usize, refusal: usize, six: &[usize; 6])
 
 // Stores what was read of one reply at a place.
 fn put_reply(rows: &mut [usize], at: usize, w: ReplyRead)
-    requires { ⌜ at + rowSize ≤ length (now rows) ⌝ }
+    requires { ⌜ at + replyRowSize ≤ length (now rows) ⌝ }
     ensures { λ _. ⌜ now (rows .exit) ≡ sets (now (rows .entry)) at (replyRow (paperReply w)) ⌝ }
 {
     match w {
@@ -50,7 +50,7 @@ fn put_reply(rows: &mut [usize], at: usize, w: ReplyRead)
 
 // Stores the replies of n items, a row each.
 fn put_replies(s: &[u8], n: usize, rows: &mut [usize])
-    requires { ⌜ rowSize * n ≤ length (now rows) ⌝ }
+    requires { ⌜ replyRowSize * n ≤ length (now rows) ⌝ }
     ensures { λ _. ⌜ now (rows .exit) ≡ sets (now (rows .entry)) 0 (rowsFrom n (now (s .entry)) n 0) ⌝ }
 {
     let mut k = 0;

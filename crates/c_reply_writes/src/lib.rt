@@ -12,7 +12,7 @@ ghost use mathlib.Core.Path.{_≡_};
 ghost use lib.ListN.{length};
 ghost use Rattle.wire.specs.Answers.{withRoom, written};
 ghost use Rattle.reply_encode.specs.Replies.{openReplyBytes, closeReplyBytes, failureBytes};
-ghost use Rattle.reply_encode.specs.Sizes.{openBase, closeBase, successSize, failureSize};
+ghost use Rattle.reply_encode.specs.Sizes.{openSuccessBase, closeSuccessBase, successSize, failureSize};
 ghost use Rattle.c_answers.specs.Codes.{code};
 ghost use Rattle.c_replies.specs.Replies.{statusOf};
 ghost use Rattle.c_reply_writes.specs.Writes.{openedOf, closedOf, remainingFrom, failOf};
@@ -31,8 +31,8 @@ pub extern "C" fn bark_write_forward_open_success(
     app_data: &[u8],
     out: &mut [u8],
 ) -> usize
-    ensures answer { λ r. ⌜ r ≡ code (withRoom (successSize openBase (now («app_data» .entry))) (length (now (out .entry)))) ⌝ }
-    ensures bytes { λ _. ⌜ now (out .exit) ≡ written (withRoom (successSize openBase (now («app_data» .entry))) (length (now (out .entry)))) (openReplyBytes service (openedOf «o_t_connection_id» «t_o_connection_id» «connection_serial_number» «vendor_id» «originator_serial_number» «o_t_api» «t_o_api») (now («app_data» .entry))) (now (out .entry)) ⌝ }
+    ensures answer { λ r. ⌜ r ≡ code (withRoom (successSize openSuccessBase (now («app_data» .entry))) (length (now (out .entry)))) ⌝ }
+    ensures bytes { λ _. ⌜ now (out .exit) ≡ written (withRoom (successSize openSuccessBase (now («app_data» .entry))) (length (now (out .entry)))) (openReplyBytes service (openedOf «o_t_connection_id» «t_o_connection_id» «connection_serial_number» «vendor_id» «originator_serial_number» «o_t_api» «t_o_api») (now («app_data» .entry))) (now (out .entry)) ⌝ }
 {
     let o = ForwardOpenSuccess {
         o_t_connection_id,
@@ -56,8 +56,8 @@ pub extern "C" fn bark_write_forward_close_success(
     app_data: &[u8],
     out: &mut [u8],
 ) -> usize
-    ensures answer { λ r. ⌜ r ≡ code (withRoom (successSize closeBase (now («app_data» .entry))) (length (now (out .entry)))) ⌝ }
-    ensures bytes { λ _. ⌜ now (out .exit) ≡ written (withRoom (successSize closeBase (now («app_data» .entry))) (length (now (out .entry)))) (closeReplyBytes service (closedOf «connection_serial_number» «vendor_id» «originator_serial_number») (now («app_data» .entry))) (now (out .entry)) ⌝ }
+    ensures answer { λ r. ⌜ r ≡ code (withRoom (successSize closeSuccessBase (now («app_data» .entry))) (length (now (out .entry)))) ⌝ }
+    ensures bytes { λ _. ⌜ now (out .exit) ≡ written (withRoom (successSize closeSuccessBase (now («app_data» .entry))) (length (now (out .entry)))) (closeReplyBytes service (closedOf «connection_serial_number» «vendor_id» «originator_serial_number») (now («app_data» .entry))) (now (out .entry)) ⌝ }
 {
     let c = ForwardCloseSuccess {
         connection_serial_number,

@@ -10,8 +10,8 @@ use Rattle.request.specs.Reads.{Sent, sent, readSend}
 abbrev pub messageNumbers : MessageRequest → List ℕ
 messageNumbers m = m .«service_code» ∷ m .«path_start» ∷ m .«path_len» ∷ m .«data_start» ∷ m .«data_len» ∷ []
 
-abbrev pub messageFields : List ℕ → Answer (List ℕ)
-messageFields s = andThen (readMessage s) (λ m. done (messageNumbers m))
+abbrev pub messageRun : List ℕ → Answer (List ℕ)
+messageRun s = andThen (readMessage s) (λ m. done (messageNumbers m))
 
 -- the record of two numbers
 abbrev pub sendOf : ℕ → ℕ → UnconnectedSend
@@ -21,5 +21,5 @@ sendOf priority timeout = record { «priority_ticks» = priority; «timeout_tick
 abbrev pub sendNumbers : Sent → List ℕ
 sendNumbers (sent u from m start len) = u .«priority_ticks» ∷ u .«timeout_ticks» ∷ from ∷ m ∷ start ∷ len ∷ []
 
-abbrev pub sendFields : List ℕ → Answer (List ℕ)
-sendFields s = andThen (readSend s) (λ x. done (sendNumbers x))
+abbrev pub sendRun : List ℕ → Answer (List ℕ)
+sendRun s = andThen (readSend s) (λ x. done (sendNumbers x))

@@ -17,7 +17,7 @@ ghost use Rattle.connection_words.specs.Requests.{messageBytes, sendBytes};
 ghost use Rattle.request.specs.Reads.{sent};
 ghost use Rattle.request_encode.specs.Over.{messageOverSize, sendOverSize};
 ghost use Rattle.c_answers.specs.Codes.{code, filled, numbers};
-ghost use Rattle.c_requests.specs.Fields.{messageNumbers, messageFields, sendOf, sendNumbers, sendFields};
+ghost use Rattle.c_requests.specs.Fields.{messageNumbers, messageRun, sendOf, sendNumbers, sendRun};
 
 // Writes a message over a path's bytes.
 #[no_mangle]
@@ -51,8 +51,8 @@ fn message_numbers(m: MessageRequest) -> [usize; 5]
 // Reads a message.
 #[no_mangle]
 pub extern "C" fn bark_read_message(s: &[u8], fields: &mut [usize]) -> usize
-    ensures answer { λ r. ⌜ r ≡ code (withRoom (filled (messageFields (now (s .entry)))) (length (now (fields .entry)))) ⌝ }
-    ensures numbers { λ _. ⌜ now (fields .exit) ≡ written (withRoom (filled (messageFields (now (s .entry)))) (length (now (fields .entry)))) (numbers (messageFields (now (s .entry)))) (now (fields .entry)) ⌝ }
+    ensures answer { λ r. ⌜ r ≡ code (withRoom (filled (messageRun (now (s .entry)))) (length (now (fields .entry)))) ⌝ }
+    ensures numbers { λ _. ⌜ now (fields .exit) ≡ written (withRoom (filled (messageRun (now (s .entry)))) (length (now (fields .entry)))) (numbers (messageRun (now (s .entry)))) (now (fields .entry)) ⌝ }
 {
     match read_message(s) {
         MessageRead::Refused(e) => refusal_answer(e),
@@ -91,8 +91,8 @@ fn send_numbers(u: UnconnectedSend, from: usize, m: usize, start: usize, len: us
 // Reads the data of an Unconnected Send.
 #[no_mangle]
 pub extern "C" fn bark_read_unconnected_send(s: &[u8], fields: &mut [usize]) -> usize
-    ensures answer { λ r. ⌜ r ≡ code (withRoom (filled (sendFields (now (s .entry)))) (length (now (fields .entry)))) ⌝ }
-    ensures numbers { λ _. ⌜ now (fields .exit) ≡ written (withRoom (filled (sendFields (now (s .entry)))) (length (now (fields .entry)))) (numbers (sendFields (now (s .entry)))) (now (fields .entry)) ⌝ }
+    ensures answer { λ r. ⌜ r ≡ code (withRoom (filled (sendRun (now (s .entry)))) (length (now (fields .entry)))) ⌝ }
+    ensures numbers { λ _. ⌜ now (fields .exit) ≡ written (withRoom (filled (sendRun (now (s .entry)))) (length (now (fields .entry)))) (numbers (sendRun (now (s .entry)))) (now (fields .entry)) ⌝ }
 {
     match read_unconnected_send(s) {
         SendRead::Refused(e) => refusal_answer(e),

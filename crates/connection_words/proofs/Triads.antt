@@ -5,13 +5,13 @@ use mathlib.Core.List.{List, [], _∷_}
 use native.Mathlib.Omega.{arith}
 use lib.Seq.{sets}
 use Rattle.wire.specs.Numbers.{lowFirst}
-use Rattle.wire.specs.Records.{number, laid}
+use Rattle.wire.specs.Records.{num, laid}
 use Rattle.wire.proofs.Records.{laid-more}
 use Rattle.connection_words.specs.Requests.{triad}
 
 pub triad-put : (old : List ℕ) (at serial vendor originator : ℕ) (a b c : List ℕ) → a ≡ sets old at (lowFirst 2 serial) → b ≡ sets a (at + 2) (lowFirst 2 vendor)
     → c ≡ sets b (at + 4) (lowFirst 4 originator) → c ≡ sets old at (laid (triad serial vendor originator))
 triad-put old at serial vendor originator a b c e f g =
-    let x : a ≡ sets old at (laid (number 2 serial ∷ [])) = laid-more [] (number 2 serial) old old a at at refl (omega arith) e in
-    let y : b ≡ sets old at (laid (number 2 serial ∷ number 2 vendor ∷ [])) = laid-more (number 2 serial ∷ []) (number 2 vendor) old a b at (at + 2) x (omega arith) f in
-    laid-more (number 2 serial ∷ number 2 vendor ∷ []) (number 4 originator) old b c at (at + 4) y (omega arith) g
+    let x : a ≡ sets old at (laid (num 2 serial ∷ [])) = laid-more [] (num 2 serial) old old a at at refl (omega arith) e in
+    let y : b ≡ sets old at (laid (num 2 serial ∷ num 2 vendor ∷ [])) = laid-more (num 2 serial ∷ []) (num 2 vendor) old a b at (at + 2) x (omega arith) f in
+    laid-more (num 2 serial ∷ num 2 vendor ∷ []) (num 4 originator) old b c at (at + 4) y (omega arith) g

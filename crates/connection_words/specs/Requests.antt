@@ -4,7 +4,7 @@ use Prim.Native.Nat.{ℕ, _/_, _%_}
 use mathlib.Core.List.{List, [], _∷_, _++_}
 use mathlib.Core.Bool.{Bool, true, false}
 use lib.ListN.{length}
-use Rattle.wire.specs.Records.{Field, byte, number, laid}
+use Rattle.wire.specs.Records.{Field, byte, num, laid}
 use Rattle.connection_words.specs.Fields.{wordOf, classTrigger}
 use Rattle.connection.specs.declared.ConnectionParameters.{ConnectionParameters}
 use Rattle.connection.specs.declared.OpenOptions.{OpenOptions}
@@ -24,7 +24,7 @@ messageBytes service path content = laid (messageFields service (words path)) ++
 
 -- what names a connection: its serial number, and its originator's vendor and serial number
 abbrev pub triad : ℕ → ℕ → ℕ → List Field
-triad serial vendor originator = number 2 serial ∷ number 2 vendor ∷ number 4 originator ∷ []
+triad serial vendor originator = num 2 serial ∷ num 2 vendor ∷ num 4 originator ∷ []
 
 -- ---- Forward Open: what stands before the path. A small one has parameters of two bytes, a large one of four
 
@@ -33,24 +33,24 @@ parameterWidth false = 2
 parameterWidth true = 4
 
 abbrev pub openIds : ℕ → ℕ → ℕ → ℕ → List Field
-openIds priority ticks toTarget toOriginator = byte priority ∷ byte ticks ∷ number 4 toTarget ∷ number 4 toOriginator ∷ []
+openIds priority ticks toTarget toOriginator = byte priority ∷ byte ticks ∷ num 4 toTarget ∷ num 4 toOriginator ∷ []
 
 -- the first 22 bytes: up to the reserved three
 abbrev pub openHead : OpenOptions → List Field
 openHead o =
     openIds (o .«priority_tick_time») (o .«timeout_ticks») (o .«o_t_connection_id») (o .«t_o_connection_id»)
     ++ (triad (o .«connection_serial_number») (o .«vendor_id») (o .«originator_serial_number»)
-    ++ (byte (o .«timeout_multiplier») ∷ number 3 0 ∷ []))
+    ++ (byte (o .«timeout_multiplier») ∷ num 3 0 ∷ []))
 
 -- a direction's requested packet interval and parameters
-abbrev pub direction : Bool → ℕ → ConnectionParameters → List Field
-direction large rpi q = number 4 rpi ∷ number (parameterWidth large) (wordOf large q) ∷ []
+abbrev pub directionFields : Bool → ℕ → ConnectionParameters → List Field
+directionFields large rpi q = num 4 rpi ∷ num (parameterWidth large) (wordOf large q) ∷ []
 
 -- the rest: both directions, class and trigger, path size
 abbrev pub openRest : OpenOptions → ℕ → List Field
 openRest o w =
-    direction (o .«large_open») (o .«o_t_rpi») (o .«o_t_params»)
-    ++ (direction (o .«large_open») (o .«t_o_rpi») (o .«t_o_params»)
+    directionFields (o .«large_open») (o .«o_t_rpi») (o .«o_t_params»)
+    ++ (directionFields (o .«large_open») (o .«t_o_rpi») (o .«t_o_params»)
     ++ (byte (classTrigger o) ∷ byte w ∷ []))
 
 unfoldable pub openBytes : OpenOptions → List ℕ → List ℕ
@@ -71,10 +71,10 @@ closeBytes c path = laid (closeFields c (words path)) ++ path
 -- ---- Unconnected Send: the message's size, the message, a zero where it is odd, the size of the route, a zero, the route
 
 abbrev pub sendHead : UnconnectedSend → ℕ → List Field
-sendHead u m = byte (u .«priority_ticks») ∷ byte (u .«timeout_ticks») ∷ number 2 m ∷ []
+sendHead u m = byte (u .«priority_ticks») ∷ byte (u .«timeout_ticks») ∷ num 2 m ∷ []
 
 abbrev pub sendRest : ℕ → ℕ → List Field
-sendRest m w = number (m % 2) 0 ∷ byte w ∷ byte 0 ∷ []
+sendRest m w = num (m % 2) 0 ∷ byte w ∷ byte 0 ∷ []
 
 unfoldable pub sendBytes : UnconnectedSend → List ℕ → List ℕ → List ℕ
 sendBytes u message path = laid (sendHead u (length message)) ++ (message ++ (laid (sendRest (length message) (words path)) ++ path))

@@ -9,37 +9,37 @@ use lib.Seq.{sets, length-sets, getD-drop}
 use Rattle.wire.specs.Refusals.{number}
 use Rattle.wire.specs.Parts.{overlay}
 use Rattle.wire.specs.Folds.{joined}
-use Rattle.wire.specs.Answers.{Answer, done, refused, paperCount, written, Put}
+use Rattle.wire.specs.Answers.{Answer, done, refused, paperCount, written, Put, PutAt, orZero}
 use Rattle.wire.specs.declared.Refusal.{Refusal}
 use Rattle.wire.specs.declared.Counted.{Counted}
 use Rattle.wire.specs.declared.Counted.the-variants.{Count, Refused as NotCounted}
 use Rattle.wire.proofs.Rules.{rules}
 use Rattle.wire.proofs.Stores.{sets-append, sets-onto, sets-overlay, past-part}
-use Rattle.nested.specs.Nested.{maxRows, rowSize, Row, numbers, nested, counted, stored}
+use Rattle.nested.specs.Nested.{maxRows, rowSize, Row, rowValues, nested, counted, storedRows}
 use Rattle.nested.proofs.Few.{most-rows}
 use Rattle.nested.proofs.RowLaws.{counted-fits, lent-none}
-use Rattle.dump_text.specs.Text.{blank, newline, word, hexWord, line, refusedWord, refusedLine, textOf, dumpText, textAnswer, textOver, maxLine, maxText, rowAt, linesFrom, textIn, howMany, roomy, Placed}
+use Rattle.dump_text.specs.Text.{space, newline, word, hexWord, line, refusedWord, refusedLine, textOf, dumpText, textAnswer, textOver, maxLine, maxText, rowAt, linesFrom, textIn, roomy}
 use Rattle.dump_text.proofs.WordLaws.{placed-then, word-most, line-most}
 
 -- ---- a line
-module _ (old a : List ℕ) (at p d : ℕ) (w : Placed (word d blank) at p old a) where
+module _ (old a : List ℕ) (at p d : ℕ) (w : PutAt at (word d space) old p a) where
   pub line-hex : at ≤ maxText → p ≤ roomy
-  line-hex h = omega (arith, w .next, word-most d blank)
+  line-hex h = omega (arith, w .ends, word-most d space)
 
-  module _ (b : List ℕ) (q s : ℕ) (x : Placed (hexWord s) p q a b) where
+  module _ (b : List ℕ) (q s : ℕ) (x : PutAt p (hexWord s) a q b) where
     pub line-path : at ≤ maxText → q ≤ roomy
-    line-path h = omega (arith, w .next, x .next, word-most d blank)
+    line-path h = omega (arith, w .ends, x .ends, word-most d space)
 
-    module _ (c : List ℕ) (r n : ℕ) (y : Placed (word n blank) q r b c) where
+    module _ (c : List ℕ) (r n : ℕ) (y : PutAt q (word n space) b r c) where
       pub line-data : at ≤ maxText → r ≤ roomy
-      line-data h = omega (arith, w .next, x .next, y .next, word-most d blank, word-most n blank)
+      line-data h = omega (arith, w .ends, x .ends, y .ends, word-most d space, word-most n space)
 
-      pub line-placed : (new l : List ℕ) (e k m : ℕ) → Placed (word m newline) r e c new → d ≡ getD l (rowSize * k) 0 → s ≡ getD l (rowSize * k + 1) 0 → n ≡ getD l (rowSize * k + 2) 0
-          → m ≡ getD l (rowSize * k + 3) 0 → Placed (line (rowAt l k)) at e old new
+      pub line-placed : (new l : List ℕ) (e k m : ℕ) → PutAt r (word m newline) c e new → d ≡ getD l (rowSize * k) 0 → s ≡ getD l (rowSize * k + 1) 0 → n ≡ getD l (rowSize * k + 2) 0
+          → m ≡ getD l (rowSize * k + 3) 0 → PutAt at (line (rowAt l k)) old e new
       line-placed new l e k m z i j f g =
           rw (← i, ← j, ← f, ← g)
-          (placed-then (word d blank) _ old a new at p e w
-          (placed-then (hexWord s) _ a b new p q e x (placed-then (word n blank) _ b c new q r e y z)))
+          (placed-then (word d space) _ old a new at p e w
+          (placed-then (hexWord s) _ a b new p q e x (placed-then (word n space) _ b c new q r e y z)))
 
 pub ruleset line-laws = (line-hex, line-path, line-data, line-placed)
 
@@ -79,17 +79,17 @@ module _ (l : List ℕ) (n rest at : ℕ) (old out : List ℕ) (h : Lines l n re
         let f : n - rest + 1 ≡ n - (rest - 1) = omega (arith, h .most) in
         ap (λ (k : ℕ). linesFrom k l (n - rest)) e ∙ ap (λ (k : ℕ). line (rowAt l (n - rest)) ++ linesFrom (rest - 1) l k) f
 
-    pub lines-more : (new : List ℕ) (r : ℕ) → Placed (line (rowAt l (n - rest))) at r out new → Lines l n (rest - 1) r old new
+    pub lines-more : (new : List ℕ) (r : ℕ) → PutAt at (line (rowAt l (n - rest))) out r new → Lines l n (rest - 1) r old new
     lines-more new r p =
         let a : List ℕ = line (rowAt l (n - rest)) in
         let b : List ℕ = linesFrom (rest - 1) l (n - (rest - 1)) in
         record {
           most = omega (arith, h .most);
-          small = omega (arith, p .next, h .small, h .most, line-most (rowAt l (n - rest)));
-          size = omega (arith, p .next, h .size, ap length split, length-append (line (rowAt l (n - rest))) (linesFrom (rest - 1) l (n - (rest - 1))));
+          small = omega (arith, p .ends, h .small, h .most, line-most (rowAt l (n - rest)));
+          size = omega (arith, p .ends, h .size, ap length split, length-append (line (rowAt l (n - rest))) (linesFrom (rest - 1) l (n - (rest - 1))));
           left =
               ap (λ (x : List ℕ). sets x r b) (p .stored)
-              ∙ ap (λ (k : ℕ). sets (sets out at a) k b) (p .next)
+              ∙ ap (λ (k : ℕ). sets (sets out at a) k b) (p .ends)
               ∙ sets-append out a b at
               ∙ ap (λ (x : List ℕ). sets out at x) (sym split)
               ∙ h .left;
@@ -99,10 +99,10 @@ module _ (l : List ℕ) (n rest at : ℕ) (old out : List ℕ) (h : Lines l n re
 pub ruleset lines-laws = (lines-first, lines-end, lines-row, lines-place, lines-more)
 
 -- ---- a refusal, and a text
-pub refused-put : (old mid new : List ℕ) (v k r : ℕ) → v ≡ k → mid ≡ sets old 0 refusedWord → Placed (word v newline) 8 r mid new
+pub refused-put : (old mid new : List ℕ) (v k r : ℕ) → v ≡ k → mid ≡ sets old 0 refusedWord → PutAt 8 (word v newline) mid r new
     → Put (refusedLine k) old r new
 refused-put old mid new v k r i e p = rw (← i) (record {
-  size = p .next ∙ omega arith;
+  size = p .ends ∙ omega arith;
   stored = sets-onto old mid new refusedWord (word v newline) 0 8 e refl (p .stored);
 })
 
@@ -113,23 +113,23 @@ module _ (c : Counted) (l : List ℕ) (old new : List ℕ) (r : ℕ) where
   pub text-refused : (e : Refusal) → c ≡ NotCounted e → Put (refusedLine (number e)) old r new → Put (textIn (paperCount c) l) old r new
   text-refused e h p = rw h p
 
-pub text-few : (c : Counted) (n : ℕ) → c ≡ Count n → howMany (paperCount c) ≤ maxRows → n ≤ maxRows
+pub text-few : (c : Counted) (n : ℕ) → c ≡ Count n → orZero (paperCount c) ≤ maxRows → n ≤ maxRows
 text-few c n h b = rw h at b
 
 pub ruleset text-laws = (text-lines, text-refused, text-few)
 
 -- ---- rows in a run of numbers, as lines
-rows-lines : (rs : List Row) (l t : List ℕ) (k : ℕ) → drop (rowSize * k) l ≡ joined numbers rs ++ t → linesFrom (length rs) l k ≡ joined line rs
+rows-lines : (rs : List Row) (l t : List ℕ) (k : ℕ) → drop (rowSize * k) l ≡ joined rowValues rs ++ t → linesFrom (length rs) l k ≡ joined line rs
 unfolding linesFrom
 rows-lines [] l t k e = refl
 rows-lines (r ∷ rs) l t k e =
-    let at : (i : ℕ) → getD l (rowSize * k + i) 0 ≡ getD (joined numbers (r ∷ rs) ++ t) i 0 = λ i. sym (getD-drop (rowSize * k) l i 0) ∙ ap (λ (x : List ℕ). getD x i 0) e in
+    let at : (i : ℕ) → getD l (rowSize * k + i) 0 ≡ getD (joined rowValues (r ∷ rs) ++ t) i 0 = λ i. sym (getD-drop (rowSize * k) l i 0) ∙ ap (λ (x : List ℕ). getD x i 0) e in
     let a0 : getD l (rowSize * k) 0 ≡ r .depth = ap (λ (j : ℕ). getD l j 0) (sym (add-zero (rowSize * k))) ∙ at 0 in
     let a1 : getD l (rowSize * k + 1) 0 ≡ r .service = at 1 in
     let a2 : getD l (rowSize * k + 2) 0 ≡ r .pathLen = at 2 in
     let a3 : getD l (rowSize * k + 3) 0 ≡ r .dataLen = at 3 in
     let z : rowSize * k + rowSize ≡ rowSize * (k + 1) = omega arith in
-    let f : drop (rowSize * (k + 1)) l ≡ joined numbers rs ++ t = ap (λ (j : ℕ). drop j l) (sym z) ∙ past-part l (numbers r) (joined numbers rs ++ t) (rowSize * k) e in
+    let f : drop (rowSize * (k + 1)) l ≡ joined rowValues rs ++ t = ap (λ (j : ℕ). drop j l) (sym z) ∙ past-part l (rowValues r) (joined rowValues rs ++ t) (rowSize * k) e in
     rw (a0, a1, a2, a3) (ap (λ (x : List ℕ). line r ++ x) (rows-lines rs l t (k + 1) f))
 
 module _ (s l : List ℕ) (room : length l ≡ rowSize * maxRows) where
@@ -137,29 +137,29 @@ module _ (s l : List ℕ) (room : length l ≡ rowSize * maxRows) where
   has-room : (rs : List Row) → nested s ≡ done rs → counted (done rs) (length l) ≡ done (length rs)
   has-room rs e = counted-fits (done rs) rs (length l) refl (omega (arith, room, most-rows s rs e))
 
-  text-is : textIn (counted (nested s) (length l)) (stored (nested s) l) ≡ dumpText s
-  unfolding dumpText overlay stored counted
+  text-is : textIn (counted (nested s) (length l)) (storedRows (nested s) l) ≡ dumpText s
+  unfolding dumpText overlay storedRows counted
   text-is = go (nested s) refl
     where
-      front : (rs : List Row) → linesFrom (length rs) (overlay (joined numbers rs) l) 0 ≡ joined line rs
-      front rs = rows-lines rs (overlay (joined numbers rs) l) (drop (length (joined numbers rs)) l) 0 refl
+      front : (rs : List Row) → linesFrom (length rs) (overlay (joined rowValues rs) l) 0 ≡ joined line rs
+      front rs = rows-lines rs (overlay (joined rowValues rs) l) (drop (length (joined rowValues rs)) l) 0 refl
 
-      go : (w : Answer (List Row)) → nested s ≡ w → textIn (counted w (length l)) (stored w l) ≡ textOf w
+      go : (w : Answer (List Row)) → nested s ≡ w → textIn (counted w (length l)) (storedRows w l) ≡ textOf w
       go (refused k) e = refl
       go (done rs) e =
           let q : counted (done rs) (length l) ≡ done (length rs) = has-room rs e in
-          ap (λ (a : Answer ℕ). textIn a (written a (joined numbers rs) l)) q ∙ front rs
+          ap (λ (a : Answer ℕ). textIn a (written a (joined rowValues rs) l)) q ∙ front rs
 
-  pub dump-few : (c : Counted) → paperCount c ≡ counted (nested s) (length l) → howMany (paperCount c) ≤ maxRows
+  pub dump-few : (c : Counted) → paperCount c ≡ counted (nested s) (length l) → orZero (paperCount c) ≤ maxRows
   unfolding counted
   dump-few c e = rw e (go (nested s) refl)
     where
-      go : (w : Answer (List Row)) → nested s ≡ w → howMany (counted w (length l)) ≤ maxRows
+      go : (w : Answer (List Row)) → nested s ≡ w → orZero (counted w (length l)) ≤ maxRows
       go (refused k) e = omega arith
       go (done rs) e = rw (has-room rs e) (most-rows s rs e)
 
 -- ---- the text of a message, first stored nowhere
-module _ (s l0 l old : List ℕ) (room : length l0 ≡ rowSize * maxRows) (c : Counted) (ce : paperCount c ≡ counted (nested s) (length l0)) (le : l ≡ stored (nested s) l0) where
+module _ (s l0 l old : List ℕ) (room : length l0 ≡ rowSize * maxRows) (c : Counted) (ce : paperCount c ≡ counted (nested s) (length l0)) (le : l ≡ storedRows (nested s) l0) where
   same-text : textIn (paperCount c) l ≡ dumpText s
   same-text = rw (ce, le) (text-is s l0 room)
 

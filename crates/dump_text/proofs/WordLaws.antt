@@ -9,22 +9,23 @@ use mir.Val.{Fits}
 use mir.Syntax.{w16, w64}
 use lib.ListN.{length, set, length-append}
 use borrow.Author.Tests.{lt-ltb, le-ltb}
+use Rattle.wire.specs.Answers.{PutAt}
 use Rattle.wire.proofs.Numbers.{below-or}
 use Rattle.wire.proofs.Stores.{sets-onto}
 use Rattle.lines.specs.Lines.{hexDigit}
 use Rattle.nested.specs.Nested.{Row}
-use Rattle.dump_text.specs.Text.{blank, newline, decimalBy, decimal, word, hexWord, line, maxLine, roomy, Placed}
+use Rattle.dump_text.specs.Text.{space, newline, decimalBy, decimal, word, hexWord, line, maxLine, roomy}
 
 -- ---- one behind another
 module _ (a b l m n : List ℕ) (at p q : ℕ) where
-  pub placed-then : Placed a at p l m → Placed b p q m n → Placed (a ++ b) at q l n
+  pub placed-then : PutAt at a l p m → PutAt p b m q n → PutAt at (a ++ b) l q n
   placed-then x y = record {
-    next = omega (arith, x .next, y .next, length-append a b);
-    stored = sets-onto l m n a b at p (x .stored) (x .next) (y .stored);
+    ends = omega (arith, x .ends, y .ends, length-append a b);
+    stored = sets-onto l m n a b at p (x .stored) (x .ends) (y .stored);
   }
 
-placed-one : (a l m n : List ℕ) (at p c : ℕ) → Placed a at p l m → n ≡ set m p c → Placed (a ++ (c ∷ [])) at (p + 1) l n
-placed-one a l m n at p c x e = placed-then a (c ∷ []) l m n at p (p + 1) x (record { next = refl; stored = e })
+placed-one : (a l m n : List ℕ) (at p c : ℕ) → PutAt at a l p m → n ≡ set m p c → PutAt at (a ++ (c ∷ [])) l (p + 1) n
+placed-one a l m n at p c x e = placed-then a (c ∷ []) l m n at p (p + 1) x (record { ends = refl; stored = e })
 
 -- ---- decimal
 
@@ -59,18 +60,18 @@ decimal-most (suc k) v =
     (below-or v 10)
 
 module _ (old new : List ℕ) (at v : ℕ) where
-  pub decimal-low : v < 10 → new ≡ set old at (48 + v) → Placed (decimal v) at (at + 1) old new
-  decimal-low h e = rw (low-digit v h) (record { next = refl; stored = e })
+  pub decimal-low : v < 10 → new ≡ set old at (48 + v) → PutAt at (decimal v) old (at + 1) new
+  decimal-low h e = rw (low-digit v h) (record { ends = refl; stored = e })
 
-  pub decimal-more : (mid : List ℕ) (last : ℕ) → 10 ≤ v → Fits w16 v → Placed (decimal (v / 10)) at last old mid → new ≡ set mid last (48 + v % 10)
-      → Placed (decimal v) at (last + 1) old new
+  pub decimal-more : (mid : List ℕ) (last : ℕ) → 10 ≤ v → Fits w16 v → PutAt at (decimal (v / 10)) old last mid → new ≡ set mid last (48 + v % 10)
+      → PutAt at (decimal v) old (last + 1) new
   decimal-more mid last h f p e = rw (more-digits v h (omega (arith, f .fits))) (placed-one (decimal (v / 10)) old mid new at last (48 + v % 10) p e)
 
-  pub word-placed : (mid : List ℕ) (last end : ℕ) → Placed (decimal v) at last old mid → new ≡ set mid last end → Placed (word v end) at (last + 1) old new
+  pub word-placed : (mid : List ℕ) (last end : ℕ) → PutAt at (decimal v) old last mid → new ≡ set mid last end → PutAt at (word v end) old (last + 1) new
   word-placed mid last end p e = placed-one (decimal v) old mid new at last end p e
 
-  pub decimal-fits : (last : ℕ) → at ≤ roomy → Placed (decimal v) at last old new → Fits w64 (last + 1)
-  decimal-fits last h p = record { fits = omega (arith, p .next, decimal-most 4 v) }
+  pub decimal-fits : (last : ℕ) → at ≤ roomy → PutAt at (decimal v) old last new → Fits w64 (last + 1)
+  decimal-fits last h p = record { fits = omega (arith, p .ends, decimal-most 4 v) }
 
 pub ruleset word-laws = (decimal-low, decimal-more, word-placed, decimal-fits)
 
@@ -80,13 +81,13 @@ unfolding hexDigit
 hex-low w = rw (mod-mod w 16)
 
 pub hex-placed : (old a b new : List ℕ) (at v x y : ℕ) → x ≡ hexDigit (v / 16 % 16) → y ≡ hexDigit (v % 16) → a ≡ set old at x → b ≡ set a (at + 1) y
-    → new ≡ set b (at + 2) blank → Placed (hexWord v) at (at + 3) old new
+    → new ≡ set b (at + 2) space → PutAt at (hexWord v) old (at + 3) new
 hex-placed old a b new at v x y p q e f g =
     let one : at + 1 ≡ suc at = omega arith in
     let two : at + 2 ≡ suc (suc at) = omega arith in
     let i : hexDigit (v / 16) ≡ x = sym (p ∙ hex-low (v / 16)) in
     let j : hexDigit v ≡ y = sym (q ∙ hex-low v) in
-    record { next = refl; stored = rw (g, f, e, one, two, i, j) }
+    record { ends = refl; stored = rw (g, f, e, one, two, i, j) }
 
 -- ---- how long
 pub word-most : (v end : ℕ) → length (word v end) ≤ 6
@@ -97,8 +98,8 @@ line-parts a h b c p q r t = omega (arith, length-append a (h ++ (b ++ c)), leng
 
 pub line-most : (r : Row) → length (line r) ≤ maxLine
 line-most r =
-    line-parts (word (r .depth) blank) (hexWord (r .service)) (word (r .pathLen) blank) (word (r .dataLen) newline)
-    (word-most (r .depth) blank)
+    line-parts (word (r .depth) space) (hexWord (r .service)) (word (r .pathLen) space) (word (r .dataLen) newline)
+    (word-most (r .depth) space)
     (omega arith)
-    (word-most (r .pathLen) blank)
+    (word-most (r .pathLen) space)
     (word-most (r .dataLen) newline)

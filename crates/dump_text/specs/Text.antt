@@ -1,10 +1,8 @@
 -- What the dump program prints, in ASCII. Document 01, "Nesting and the dump": for each message its depth, its service in two hex digits, its path
 -- bytes and its data bytes; or only `refused` and a number. Assumes nothing: these are definitions.
 use Prim.Native.Nat.{ℕ, zero, suc, _+_, _*_, _/_, _%_}
-use mathlib.Core.Path.{_≡_}
 use mathlib.Core.List.{List, [], _∷_, _++_}
 use lib.ListN.{length, getD}
-use lib.Seq.{sets}
 use lib.Dec.{ltb}
 use Rattle.wire.specs.Choice.{pick}
 use Rattle.wire.specs.Folds.{joined}
@@ -14,8 +12,8 @@ use Rattle.nested.specs.Nested.{maxRows, rowSize, Row, nested}
 
 -- ---- words
 
-abbrev pub blank : ℕ
-blank = 32
+abbrev pub space : ℕ
+space = 32
 
 abbrev pub newline : ℕ
 newline = 10
@@ -35,16 +33,16 @@ word v end = decimal v ++ (end ∷ [])
 
 -- a byte in two hex digits, and a blank
 abbrev pub hexWord : ℕ → List ℕ
-hexWord b = hexText (b ∷ []) ++ (blank ∷ [])
+hexWord b = hexText (b ∷ []) ++ (space ∷ [])
 
 -- ---- lines
 
 abbrev pub line : Row → List ℕ
-line r = word (r .depth) blank ++ (hexWord (r .service) ++ (word (r .pathLen) blank ++ word (r .dataLen) newline))
+line r = word (r .depth) space ++ (hexWord (r .service) ++ (word (r .pathLen) space ++ word (r .dataLen) newline))
 
 -- `refused` and a blank
 abbrev pub refusedWord : List ℕ
-refusedWord = 114 ∷ 101 ∷ 102 ∷ 117 ∷ 115 ∷ 101 ∷ 100 ∷ blank ∷ []
+refusedWord = 114 ∷ 101 ∷ 102 ∷ 117 ∷ 115 ∷ 101 ∷ 100 ∷ space ∷ []
 
 abbrev pub refusedLine : ℕ → List ℕ
 refusedLine k = refusedWord ++ word k newline
@@ -86,16 +84,6 @@ abbrev pub textIn : Answer ℕ → List ℕ → List ℕ
 textIn (done n) l = linesFrom n l 0
 textIn (refused k) l = refusedLine k
 
--- how many rows an answer counts
-abbrev pub howMany : Answer ℕ → ℕ
-howMany (done n) = n
-howMany (refused k) = 0
-
 -- places that can be counted on from
 abbrev pub roomy : ℕ
 roomy = 2 * maxText
-
--- ---- what a function that stores bytes from a place on leaves: the place behind them, and the list
-pub record Placed (bytes : List ℕ) (at r : ℕ) (old new : List ℕ) : Type 0 where
-  pub next : r ≡ at + length bytes
-  pub stored : new ≡ sets old at bytes

@@ -11,9 +11,9 @@ ghost use mathlib.Core.Path.{_≡_};
 ghost use Prim.Native.Nat.{_*_, _≤_};
 ghost use lib.ListN.{length, getD};
 ghost use Rattle.wire.specs.Refusals.{number};
-ghost use Rattle.wire.specs.Answers.{paperSize, paperCount, Put};
+ghost use Rattle.wire.specs.Answers.{paperSize, paperCount, Put, PutAt, orZero};
 ghost use Rattle.nested.specs.Nested.{maxRows, rowSize};
-ghost use Rattle.dump_text.specs.Text.{maxText, rowAt, line, linesFrom, refusedLine, howMany, textIn, textAnswer, textOver, Placed};
+ghost use Rattle.dump_text.specs.Text.{maxText, rowAt, line, linesFrom, refusedLine, textIn, textAnswer, textOver};
 
 // Bytes of the longest text, and more: no message has more than MAX_ROWS rows, no line more than 21 bytes. Its twin is in specs/Text.antt.
 pub const MAX_TEXT: usize = 344064;
@@ -34,7 +34,7 @@ fn number_at(rows: &[u16], at: usize) -> u16
 // Stores the line of row k from a place on; answers the place behind it.
 fn put_line(rows: &[u16], k: usize, out: &mut [u8], at: usize) -> usize
     requires { ⌜ (k ≤ maxRows) × (at ≤ maxText) ⌝ }
-    ensures { λ r. ⌜ Placed (line (rowAt (now (rows .entry)) k)) at r (now (out .entry)) (now (out .exit)) ⌝ }
+    ensures { λ r. ⌜ PutAt at (line (rowAt (now (rows .entry)) k)) (now (out .entry)) r (now (out .exit)) ⌝ }
 {
     let first = nested::ROW * k;
     let service = put_word(out, at, number_at(rows, first), words::BLANK);
@@ -67,7 +67,7 @@ fn put_refused(e: Refusal, out: &mut [u8]) -> usize
 
 // Stores the text of what a reading answered, with its rows; answers how many bytes it is.
 fn put_text(c: Counted, rows: &[u16], out: &mut [u8]) -> usize
-    requires { ⌜ howMany (paperCount c) ≤ maxRows ⌝ }
+    requires { ⌜ orZero (paperCount c) ≤ maxRows ⌝ }
     ensures { λ r. ⌜ Put (textIn (paperCount c) (now (rows .entry))) (now (out .entry)) r (now (out .exit)) ⌝ }
 {
     match c {

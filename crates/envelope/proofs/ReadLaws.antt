@@ -14,37 +14,37 @@ use Rattle.wire.specs.declared.Counted.{Counted}
 use Rattle.wire.specs.declared.Counted.the-variants.{Count, Refused as NotCounted}
 use Rattle.wire.proofs.Rules.{rules, then-stops, then-goes}
 use Rattle.wire.proofs.Choice.{pick-here, pick-past}
-use Rattle.envelope.specs.Envelopes.{connectedAddress, connectedData, nullAddress, unconnectedData, Held, unconnected, connected, itemAt, unconnectedAt, connectedAt, readEnvelope, most}
+use Rattle.envelope.specs.Envelopes.{connectedAddress, connectedData, nullAddress, unconnectedData, Held, unconnected, connected, itemLength, unconnectedAt, connectedAt, readEnvelope, most}
 
 -- ---- one item
 module _ (kind : ℕ) (s : List ℕ) (at : ℕ) where
-  pub item-short : length s < at + 2 → refused 1 ≡ itemAt kind s at
-  unfolding itemAt
+  pub item-short : length s < at + 2 → refused 1 ≡ itemLength kind s at
+  unfolding itemLength
   item-short h = search rules
 
   module _ (t : ℕ) (is : t ≡ valueOf 2 (drop at s)) (h : at + 2 ≤ length s) where
-    pub item-other : (t ≡ kind → ⊥) → refused 10 ≡ itemAt kind s at
-    unfolding itemAt
+    pub item-other : (t ≡ kind → ⊥) → refused 10 ≡ itemLength kind s at
+    unfolding itemLength
     item-other f = let k : valueOf 2 (drop at s) ≡ kind → ⊥ = λ e. f (is ∙ e) in search rules
 
     module _ (f : t ≡ kind) where
       same-kind : valueOf 2 (drop at s) ≡ kind
       same-kind = sym is ∙ f
 
-      pub item-cut : length s < at + 4 → refused 1 ≡ itemAt kind s at
-      unfolding itemAt
+      pub item-cut : length s < at + 4 → refused 1 ≡ itemLength kind s at
+      unfolding itemLength
       item-cut g = let k = same-kind in search rules
 
       module _ (n : ℕ) (of : n ≡ valueOf 2 (drop (at + 2) s)) (g : at + 4 ≤ length s) where
-        pub item-missing : length s < at + 4 + n → refused 1 ≡ itemAt kind s at
-        unfolding itemAt
+        pub item-missing : length s < at + 4 + n → refused 1 ≡ itemLength kind s at
+        unfolding itemLength
         item-missing l =
             let k = same-kind in
             let m : length s < at + 4 + valueOf 2 (drop (at + 2) s) = omega arith in
             search rules
 
-        pub item-is : at + 4 + n ≤ length s → done n ≡ itemAt kind s at
-        unfolding itemAt
+        pub item-is : at + 4 + n ≤ length s → done n ≡ itemLength kind s at
+        unfolding itemLength
         item-is l =
             let k = same-kind in
             let m : at + 4 + valueOf 2 (drop (at + 2) s) ≤ length s = omega arith in
@@ -58,13 +58,13 @@ pub ruleset item-laws = (item-short, item-other, item-cut, item-missing, item-is
 
 -- ---- two items
 module _ (s : List ℕ) (r : Counted) (e : Refusal) (h : r ≡ NotCounted e) where
-  pub null-stops : paperCount r ≡ itemAt nullAddress s 2 → refused (number e) ≡ unconnectedAt s
+  pub null-stops : paperCount r ≡ itemLength nullAddress s 2 → refused (number e) ≡ unconnectedAt s
   unfolding unconnectedAt
-  null-stops is = then-stops (itemAt nullAddress s 2) _ (number e) (sym is ∙ ap paperCount h)
+  null-stops is = then-stops (itemLength nullAddress s 2) _ (number e) (sym is ∙ ap paperCount h)
 
-  pub address-stops : paperCount r ≡ itemAt connectedAddress s 2 → refused (number e) ≡ connectedAt s
+  pub address-stops : paperCount r ≡ itemLength connectedAddress s 2 → refused (number e) ≡ connectedAt s
   unfolding connectedAt
-  address-stops is = then-stops (itemAt connectedAddress s 2) _ (number e) (sym is ∙ ap paperCount h)
+  address-stops is = then-stops (itemLength connectedAddress s 2) _ (number e) (sym is ∙ ap paperCount h)
 
 module _ (s : List ℕ) (r : Counted) (a : ℕ) (h : r ≡ Count a) (q : Counted) where
   -- places behind the address
@@ -87,20 +87,20 @@ module _ (s : List ℕ) (r : Counted) (a : ℕ) (h : r ≡ Count a) (q : Counted
     pub end-fits : (n : ℕ) → q ≡ Count n → most q ≤ 65535 → Fits w64 (10 + a + n)
     end-fits n f m = let k : n ≤ 65535 = rw f at m in record { fits = omega (arith, near) }
 
-  module _ (is : paperCount r ≡ itemAt nullAddress s 2) (of : paperCount q ≡ itemAt unconnectedData s (6 + a)) where
+  module _ (is : paperCount r ≡ itemLength nullAddress s 2) (of : paperCount q ≡ itemLength unconnectedData s (6 + a)) where
     behind : ℕ → Answer Held
     behind n = judged (over (length s) (10 + a + n) 8 ∷ []) (done (unconnected (10 + a) n))
 
-    second : (z : Answer Held) → z ≡ andThen (itemAt unconnectedData s (6 + a)) behind → z ≡ unconnectedAt s
+    second : (z : Answer Held) → z ≡ andThen (itemLength unconnectedData s (6 + a)) behind → z ≡ unconnectedAt s
     unfolding unconnectedAt behind
-    second z e = then-goes (itemAt nullAddress s 2) _ a z (sym is ∙ ap paperCount h) e
+    second z e = then-goes (itemLength nullAddress s 2) _ a z (sym is ∙ ap paperCount h) e
 
     pub data-stops : (e : Refusal) → q ≡ NotCounted e → refused (number e) ≡ unconnectedAt s
-    data-stops e f = second (refused (number e)) (then-stops (itemAt unconnectedData s (6 + a)) behind (number e) (sym of ∙ ap paperCount f))
+    data-stops e f = second (refused (number e)) (then-stops (itemLength unconnectedData s (6 + a)) behind (number e) (sym of ∙ ap paperCount f))
 
     module _ (n : ℕ) (f : q ≡ Count n) where
       data-goes : (z : Answer Held) → z ≡ behind n → z ≡ unconnectedAt s
-      data-goes z e = second z (then-goes (itemAt unconnectedData s (6 + a)) behind n z (sym of ∙ ap paperCount f) e)
+      data-goes z e = second z (then-goes (itemLength unconnectedData s (6 + a)) behind n z (sym of ∙ ap paperCount f) e)
 
       pub data-over : 10 + a + n < length s → refused 8 ≡ unconnectedAt s
       unfolding behind
@@ -110,20 +110,20 @@ module _ (s : List ℕ) (r : Counted) (a : ℕ) (h : r ≡ Count a) (q : Counted
       unfolding behind
       data-found l = let z : done (unconnected (10 + a) n) ≡ behind n = search rules in data-goes (done (unconnected (10 + a) n)) z
 
-  module _ (is : paperCount r ≡ itemAt connectedAddress s 2) (of : paperCount q ≡ itemAt connectedData s (6 + a)) where
+  module _ (is : paperCount r ≡ itemLength connectedAddress s 2) (of : paperCount q ≡ itemLength connectedData s (6 + a)) where
     counted : ℕ → Answer Held
     counted n = judged (under n 2 1 ∷ over (length s) (10 + a + n) 8 ∷ []) (done (connected (valueOf 2 (drop (10 + a) s)) (10 + a + 2) (n - 2)))
 
-    third : (z : Answer Held) → z ≡ andThen (itemAt connectedData s (6 + a)) counted → z ≡ connectedAt s
+    third : (z : Answer Held) → z ≡ andThen (itemLength connectedData s (6 + a)) counted → z ≡ connectedAt s
     unfolding connectedAt counted
-    third z e = then-goes (itemAt connectedAddress s 2) _ a z (sym is ∙ ap paperCount h) e
+    third z e = then-goes (itemLength connectedAddress s 2) _ a z (sym is ∙ ap paperCount h) e
 
     pub count-stops : (e : Refusal) → q ≡ NotCounted e → refused (number e) ≡ connectedAt s
-    count-stops e f = third (refused (number e)) (then-stops (itemAt connectedData s (6 + a)) counted (number e) (sym of ∙ ap paperCount f))
+    count-stops e f = third (refused (number e)) (then-stops (itemLength connectedData s (6 + a)) counted (number e) (sym of ∙ ap paperCount f))
 
     module _ (n : ℕ) (f : q ≡ Count n) where
       count-goes : (z : Answer Held) → z ≡ counted n → z ≡ connectedAt s
-      count-goes z e = third z (then-goes (itemAt connectedData s (6 + a)) counted n z (sym of ∙ ap paperCount f) e)
+      count-goes z e = third z (then-goes (itemLength connectedData s (6 + a)) counted n z (sym of ∙ ap paperCount f) e)
 
       pub count-short : n < 2 → refused 1 ≡ connectedAt s
       unfolding counted

@@ -40,22 +40,22 @@ itemRules kind s at =
     ∷ under (length s) (at + 4 + valueOf 2 (drop (at + 2) s)) 1
     ∷ []
 
-unfoldable pub itemAt : ℕ → List ℕ → ℕ → Answer ℕ
-itemAt kind s at = judged (itemRules kind s at) (done (valueOf 2 (drop (at + 2) s)))
+unfoldable pub itemLength : ℕ → List ℕ → ℕ → Answer ℕ
+itemLength kind s at = judged (itemRules kind s at) (done (valueOf 2 (drop (at + 2) s)))
 
 -- a null address of a bytes, and n bytes of data
 unfoldable pub unconnectedAt : List ℕ → Answer Held
 unconnectedAt s =
-    andThen (itemAt nullAddress s 2) (λ a.
-    andThen (itemAt unconnectedData s (6 + a)) (λ n.
+    andThen (itemLength nullAddress s 2) (λ a.
+    andThen (itemLength unconnectedData s (6 + a)) (λ n.
     judged (over (length s) (10 + a + n) 8 ∷ [])
     (done (unconnected (10 + a) n))))
 
 -- a connected address of a bytes, and n bytes: a 16-bit count, and data
 unfoldable pub connectedAt : List ℕ → Answer Held
 connectedAt s =
-    andThen (itemAt connectedAddress s 2) (λ a.
-    andThen (itemAt connectedData s (6 + a)) (λ n.
+    andThen (itemLength connectedAddress s 2) (λ a.
+    andThen (itemLength connectedData s (6 + a)) (λ n.
     judged (under n 2 1 ∷ over (length s) (10 + a + n) 8 ∷ [])
     (done (connected (valueOf 2 (drop (10 + a) s)) (10 + a + 2) (n - 2)))))
 

@@ -6,7 +6,7 @@ use wire_read::u16_at;
 ghost use mathlib.Core.Path.{_≡_};
 ghost use Prim.Native.Nat.{_≤_};
 ghost use Rattle.wire.specs.Answers.{paperCount};
-ghost use Rattle.envelope.specs.Envelopes.{most, itemAt, unconnectedAt, connectedAt, readEnvelope, paperEnvelope};
+ghost use Rattle.envelope.specs.Envelopes.{most, itemLength, unconnectedAt, connectedAt, readEnvelope, paperEnvelope};
 
 // ---- item types, each beside its twin in specs/Envelopes.antt
 
@@ -28,7 +28,7 @@ pub enum EnvelopeRead {
 // How many bytes the item at a place has; its type is judged as soon as it is there. What is required only keeps sums from wrapping.
 fn item_at(kind: u16, s: &[u8], at: usize) -> Counted
     requires { ⌜ at ≤ 70000 ⌝ }
-    ensures answer { λ r. ⌜ paperCount r ≡ itemAt kind (now (s .entry)) at ⌝ }
+    ensures answer { λ r. ⌜ paperCount r ≡ itemLength kind (now (s .entry)) at ⌝ }
     ensures small { λ r. ⌜ most r ≤ 65535 ⌝ }
 {
     if s.len() < at + 2 {

@@ -11,7 +11,7 @@ use mir.Syntax.{w16}
 use borrow.Author.Tests.{le-leb, lt-leb}
 use Rattle.wire.specs.Numbers.{lowFirst}
 use Rattle.wire.specs.Parts.{part}
-use Rattle.wire.specs.Answers.{paperSize, Put}
+use Rattle.wire.specs.Answers.{paperSize, Put, PutAt}
 use Rattle.wire.specs.declared.Wrote.{Wrote}
 use Rattle.wire.specs.declared.Wrote.the-variants.{Size}
 use Rattle.wire.proofs.Stores.{sets-append, part-length}
@@ -19,7 +19,6 @@ use Rattle.epath_sizes.specs.Limits.{maxSymbol, maxLink, nearPort, farPortCode,
 use Rattle.epath_sizes.specs.Segments.{symbol, port, logical, pad, padded, farPort, portHead, encodeSeg}
 use Rattle.epath_sizes.specs.Lists.{meaning}
 use Rattle.epath_sizes.specs.Sizes.{segmentSize, Good}
-use Rattle.epath_encode.specs.Writes.{PutAt}
 use Rattle.epath_sizes.specs.declared.Segment.{Segment}
 use Rattle.epath_sizes.specs.declared.Segment.the-variants.{Symbol, Class, Instance, Attribute, Element, Port}
 use Rattle.epath_sizes.specs.declared.PortSegment.{PortSegment}

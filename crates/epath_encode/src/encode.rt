@@ -12,12 +12,11 @@ ghost use lib.ListN.{length};
 ghost use lib.Seq.{sets};
 ghost use Rattle.wire.specs.Numbers.{lowFirst};
 ghost use Rattle.wire.specs.Parts.{part};
-ghost use Rattle.wire.specs.Answers.{paperSize, withRoom, written, Put};
+ghost use Rattle.wire.specs.Answers.{paperSize, withRoom, written, Put, PutAt};
 ghost use Rattle.epath_sizes.specs.Limits.{maxSegments, maxSymbol, maxLink, classCode, instanceCode, attributeCode, elementCode};
 ghost use Rattle.epath_sizes.specs.Segments.{Seg, logical, portHead, pad, encodeSeg, encode, farPort};
 ghost use Rattle.epath_sizes.specs.Lists.{meaning, segsOf};
 ghost use Rattle.epath_sizes.specs.Sizes.{segmentSize, pathSize, Good, AllGood};
-ghost use Rattle.epath_encode.specs.Writes.{PutAt};
 
 // ---- the writer's parts: each stores at the front of out, where there is room for all of it, and says how many bytes
 

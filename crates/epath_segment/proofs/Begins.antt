@@ -10,7 +10,7 @@ use Rattle.epath_segment.specs.declared.decode.Kind.{Kind}
 use Rattle.epath_segment.specs.declared.decode.Kind.the-variants.{Class as kClass, Instance as kInstance, Attribute as kAttribute, Element as kElement}
 use Rattle.epath_segment.specs.declared.decode.Form.{Form}
 use Rattle.epath_segment.specs.declared.decode.Form.the-variants.{Port as fPort, Symbol as fSymbol, Narrow, Wide, Widest, Unknown}
-use Rattle.epath_segment.specs.Reads.{Row, row, table, lookup, formOf}
+use Rattle.epath_segment.specs.Reads.{FormRow, formRow, table, lookup, formOf}
 
 abbrev pub codeOf : Kind → ℕ
 codeOf kClass = classCode
@@ -29,14 +29,14 @@ pub data Begins : ℕ → Form → Type 0 where
 
 -- a property of each row, and of no row, is one of what is looked up
 module _ (b : ℕ) (P : Form → Type 0) where
-  abbrev Each : List Row → Type 0
+  abbrev Each : List FormRow → Type 0
   Each [] = P Unknown
-  Each (row c f ∷ rs) = (b ≡ c → P f) × Each rs
+  Each (formRow c f ∷ rs) = (b ≡ c → P f) × Each rs
 
-  looked : (rs : List Row) → Each rs → P (lookup b rs)
+  looked : (rs : List FormRow) → Each rs → P (lookup b rs)
   unfolding lookup
   looked [] e = e
-  looked (row c f ∷ rs) e = go (eqb b c) refl (looked rs (e .1))
+  looked (formRow c f ∷ rs) e = go (eqb b c) refl (looked rs (e .1))
     where
       go : (q : Bool) → eqb b c ≡ q → P (lookup b rs) → P (elim q [ true ↦ f | false ↦ lookup b rs ])
       go true p r = e .0 (eqb-true b c p)

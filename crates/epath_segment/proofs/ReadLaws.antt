@@ -16,7 +16,7 @@ use Rattle.epath_segment.specs.declared.decode.Kind.{Kind}
 use Rattle.epath_segment.specs.declared.decode.Kind.the-variants.{Class as kClass, Instance as kInstance, Attribute as kAttribute, Element as kElement}
 use Rattle.epath_segment.specs.declared.decode.Form.{Form}
 use Rattle.epath_segment.specs.declared.decode.Form.the-variants.{Port as fPort, Symbol as fSymbol, Narrow, Wide, Widest, Unknown}
-use Rattle.epath_segment.specs.Reads.{Front, front, Row, row, table, formOf, lookup, made, readNarrow, readWide, readPart, readSymbol, readLink, readPortNumber, readPort, readAs, readSeg}
+use Rattle.epath_segment.specs.Reads.{Front, front, FormRow, formRow, table, formOf, lookup, made, readNarrow, readWide, readPart, readSymbol, readLink, readPortNumber, readPort, readAs, readSeg}
 
 -- ---- the first byte: each row of the table, and none
 module _ (b : ℕ) where
@@ -64,7 +64,7 @@ module _ (b : ℕ) where
   unfolding formOf lookup
   form-element4 h = rw h
 
-  passed : (c : ℕ) (f : Form) (rs : List Row) → (b ≡ c → ⊥) → lookup b (row c f ∷ rs) ≡ lookup b rs
+  passed : (c : ℕ) (f : Form) (rs : List FormRow) → (b ≡ c → ⊥) → lookup b (formRow c f ∷ rs) ≡ lookup b rs
   unfolding lookup
   passed c f rs h = simp (ne-eqb _ _ h, lookup)
 

@@ -30,26 +30,26 @@ paperFront (Refused e) = refused (number e)
 
 -- ---- what the first byte says
 
-pub data Row : Type 0 where
-  row : ℕ → Form → Row
+pub data FormRow : Type 0 where
+  formRow : ℕ → Form → FormRow
 
-abbrev pub table : List Row
+abbrev pub table : List FormRow
 table =
-    row symbolCode fSymbol
-    ∷ row classCode (Narrow kClass)
-    ∷ row (classCode + 1) (Wide kClass)
-    ∷ row instanceCode (Narrow kInstance)
-    ∷ row (instanceCode + 1) (Wide kInstance)
-    ∷ row attributeCode (Narrow kAttribute)
-    ∷ row (attributeCode + 1) (Wide kAttribute)
-    ∷ row elementCode (Narrow kElement)
-    ∷ row (elementCode + 1) (Wide kElement)
-    ∷ row (elementCode + 2) Widest
+    formRow symbolCode fSymbol
+    ∷ formRow classCode (Narrow kClass)
+    ∷ formRow (classCode + 1) (Wide kClass)
+    ∷ formRow instanceCode (Narrow kInstance)
+    ∷ formRow (instanceCode + 1) (Wide kInstance)
+    ∷ formRow attributeCode (Narrow kAttribute)
+    ∷ formRow (attributeCode + 1) (Wide kAttribute)
+    ∷ formRow elementCode (Narrow kElement)
+    ∷ formRow (elementCode + 1) (Wide kElement)
+    ∷ formRow (elementCode + 2) Widest
     ∷ []
 
-unfoldable pub lookup : ℕ → List Row → Form
+unfoldable pub lookup : ℕ → List FormRow → Form
 lookup b [] = Unknown
-lookup b (row c f ∷ rs) = elim (eqb b c) [ true ↦ f | false ↦ lookup b rs ]
+lookup b (formRow c f ∷ rs) = elim (eqb b c) [ true ↦ f | false ↦ lookup b rs ]
 
 unfoldable pub formOf : ℕ → Form
 formOf b = elim (ltb b portEnd) [ true ↦ fPort | false ↦ lookup b table ]

@@ -10,7 +10,7 @@ use mir.Val.{Fits}
 use mir.Syntax.{w16}
 use Rattle.wire.specs.Numbers.{lowFirst}
 use Rattle.wire.specs.Answers.{done}
-use Rattle.wire.specs.Records.{Field, byte, number as field, bytesOf, laid}
+use Rattle.wire.specs.Records.{Field, byte, num, bytesOf, laid}
 use Rattle.wire.specs.declared.Refusal.{Refusal}
 use Rattle.wire.proofs.Rules.{never}
 use Rattle.wire.proofs.Stores.{sets-append, sets-ahead}
@@ -22,7 +22,7 @@ use Rattle.epath_sizes.specs.declared.Path.{Path}
 use Rattle.connection.specs.Limits.{sizeLimit}
 use Rattle.connection_words.proofs.FieldLaws.{flags-most}
 use Rattle.connection_words.specs.Fields.{unit, flagsOf, wordOf, parameterWord, paperWord, classTrigger}
-use Rattle.connection_words.specs.Requests.{triad, parameterWidth, direction, openIds, openHead, openRest, openBytes, closeFields, closeBytes}
+use Rattle.connection_words.specs.Requests.{triad, parameterWidth, directionFields, openIds, openHead, openRest, openBytes, closeFields, closeBytes}
 use Rattle.connection.specs.declared.ConnectionParameters.{ConnectionParameters}
 use Rattle.connection.specs.declared.OpenOptions.{OpenOptions}
 use Rattle.connection.specs.declared.ForwardCloseRequest.{ForwardCloseRequest}
@@ -90,20 +90,20 @@ module _ (large : Bool) (q : ConnectionParameters) (good : parameterWord large q
 
 -- a direction, and the second 14 or 18 bytes
 pub direction-put : (large : Bool) (rpi : ℕ) (q : ConnectionParameters) (at : ℕ) (old a b : List ℕ) → a ≡ sets old at (lowFirst 4 rpi)
-    → b ≡ sets a (at + 4) (lowFirst (parameterWidth large) (wordOf large q)) → b ≡ sets old at (laid (direction large rpi q))
+    → b ≡ sets a (at + 4) (lowFirst (parameterWidth large) (wordOf large q)) → b ≡ sets old at (laid (directionFields large rpi q))
 direction-put large rpi q at old a b e f =
-    let x : a ≡ sets old at (laid (field 4 rpi ∷ [])) = laid-more [] (field 4 rpi) old old a at at refl (omega arith) e in
-    laid-more (field 4 rpi ∷ []) (field (parameterWidth large) (wordOf large q)) old a b at (at + 4) x (omega arith) f
+    let x : a ≡ sets old at (laid (num 4 rpi ∷ [])) = laid-more [] (num 4 rpi) old old a at at refl (omega arith) e in
+    laid-more (num 4 rpi ∷ []) (num (parameterWidth large) (wordOf large q)) old a b at (at + 4) x (omega arith) f
 
 module _ (o : OpenOptions) (w k b : ℕ) (old a0 a1 a2 : List ℕ) (is : k ≡ parameterWidth (o .«large_open»)) (trigger : b ≡ classTrigger o)
-    (e0 : a0 ≡ sets old 22 (laid (direction (o .«large_open») (o .«o_t_rpi») (o .«o_t_params»))))
-    (e1 : a1 ≡ sets a0 (26 + k) (laid (direction (o .«large_open») (o .«t_o_rpi») (o .«t_o_params»))))
+    (e0 : a0 ≡ sets old 22 (laid (directionFields (o .«large_open») (o .«o_t_rpi») (o .«o_t_params»))))
+    (e1 : a1 ≡ sets a0 (26 + k) (laid (directionFields (o .«large_open») (o .«t_o_rpi») (o .«t_o_params»))))
     (e2 : a2 ≡ sets a1 (30 + k + k) (b ∷ w ∷ [])) where
   pub open-rest : a2 ≡ sets old 22 (laid (openRest o w))
   open-rest =
       let l : Bool = o .«large_open» in
-      let x : List Field = direction l (o .«o_t_rpi») (o .«o_t_params») in
-      let y : List Field = direction l (o .«t_o_rpi») (o .«t_o_params») in
+      let x : List Field = directionFields l (o .«o_t_rpi») (o .«o_t_params») in
+      let y : List Field = directionFields l (o .«t_o_rpi») (o .«t_o_params») in
       let z : List Field = byte (classTrigger o) ∷ byte w ∷ [] in
       let f1 : a1 ≡ sets old 22 (laid x ++ laid y) =
       e1 ∙ ap (λ (t : List ℕ). sets t (26 + k) (laid y)) e0 ∙ ap (λ (i : ℕ). sets (sets old 22 (laid x)) i (laid y)) (omega (arith, laid-length x)) ∙ sets-append old (laid x) (laid y) 22 in

@@ -24,7 +24,7 @@ ghost use Rattle.wire.specs.Records.{laid};
 ghost use Rattle.connection_words.specs.Fields.{wordOf, parameterWord};
 ghost use Rattle.epath_sizes.specs.Segments.{encode};
 ghost use Rattle.epath_sizes.specs.Lists.{segsOf};
-ghost use Rattle.connection_words.specs.Requests.{parameterWidth, direction, openIds, openHead, openRest, openBytes};
+ghost use Rattle.connection_words.specs.Requests.{parameterWidth, directionFields, openIds, openHead, openRest, openBytes};
 ghost use Rattle.forward_sizes.specs.Sizes.{openBase, openSize};
 ghost use Rattle.forward_encode.specs.Words.{GoodWords};
 ghost use Rattle.route.specs.Routes.{Ready};
@@ -68,7 +68,7 @@ fn put_parameters(large: bool, q: ConnectionParameters, out: &mut [u8], at: usiz
 // A direction's requested packet interval and its parameters.
 fn put_direction(large: bool, rpi: u32, q: ConnectionParameters, out: &mut [u8], at: usize)
     requires { ⌜ (at ≤ 100) × (parameterWord large q ≡ done (wordOf large q)) ⌝ }
-    ensures { λ _. ⌜ now (out .exit) ≡ sets (now (out .entry)) at (laid (direction large rpi q)) ⌝ }
+    ensures { λ _. ⌜ now (out .exit) ≡ sets (now (out .entry)) at (laid (directionFields large rpi q)) ⌝ }
 {
     put_u32(out, at, rpi);
     put_parameters(large, q, out, at + 4);

@@ -8,7 +8,7 @@ use lib.ListN.{length, set}
 use lib.Seq.{sets}
 use Rattle.wire.specs.Numbers.{Bytes}
 use Rattle.wire.proofs.Numbers.{below-or}
-use Rattle.lines.specs.Lines.{maxDigits, noDigit, hexValue, hexDigit, byteOf, hexText, start, next, kept, taken, filled, caseOf, caseLine}
+use Rattle.lines.specs.Lines.{maxDigits, noDigit, hexValue, hexDigit, byteOf, hexText, start, next, kept, taken, takenBytes, caseOf, caseLine}
 use Rattle.lines.specs.declared.Line.{Line}
 use Rattle.lines.specs.declared.Line.the-variants as Line
 use Rattle.lines.specs.declared.Case.{Case}
@@ -76,7 +76,7 @@ module _ (k high b : ℕ) (out : List ℕ) (byte : b < 256) (room : 2 * k + 2 �
       ∙ ap (set out k) (omega (arith, byte))
 
 text-taken : (bs : List ℕ) (k high : ℕ) (out : List ℕ) → Bytes bs → 2 * (k + length bs) ≤ maxDigits
-    → (caseLine (taken (Line.Digits (2 * k) high) (hexText bs)) ≡ caseOf (2 * (k + length bs))) × (filled (Line.Digits (2 * k) high) (hexText bs) out ≡ sets out k bs)
+    → (caseLine (taken (Line.Digits (2 * k) high) (hexText bs)) ≡ caseOf (2 * (k + length bs))) × (takenBytes (Line.Digits (2 * k) high) (hexText bs) out ≡ sets out k bs)
 unfolding caseLine
 text-taken [] k high out all room = (ap (λ (n : ℕ). caseOf (2 * n)) (omega arith), refl)
 text-taken (b ∷ bs) k high out all room =
@@ -87,15 +87,15 @@ text-taken (b ∷ bs) k high out all room =
       ap (λ (l : Line). caseLine (taken l (hexText bs))) (pair-taken k high b out byte less)
           ∙ rest .0
           ∙ ap (λ (n : ℕ). caseOf (2 * n)) (omega arith),
-      ap (λ (l : Line). filled l (hexText bs) (kept one (hexDigit b) (kept (Line.Digits (2 * k) high) (hexDigit (b / 16)) out))) (pair-taken k high b out byte less)
-          ∙ ap (filled (Line.Digits (2 * (k + 1)) (b % 16)) (hexText bs)) (pair-kept k high b out byte less)
+      ap (λ (l : Line). takenBytes l (hexText bs) (kept one (hexDigit b) (kept (Line.Digits (2 * k) high) (hexDigit (b / 16)) out))) (pair-taken k high b out byte less)
+          ∙ ap (takenBytes (Line.Digits (2 * (k + 1)) (b % 16)) (hexText bs)) (pair-kept k high b out byte less)
           ∙ rest .1
           ∙ ap (λ (n : ℕ). sets (set out k b) n bs) (omega arith),
     )
 
 -- the text of bytes that fit a line is a case of so many bytes, and they are what is lent afterwards, from its front on
 pub text-read-back : (bs out : List ℕ) → Bytes bs → 1 ≤ length bs → 2 * length bs ≤ maxDigits
-    → (caseLine (taken start (hexText bs)) ≡ Case.Bytes (length bs)) × (filled start (hexText bs) out ≡ sets out 0 bs)
+    → (caseLine (taken start (hexText bs)) ≡ Case.Bytes (length bs)) × (takenBytes start (hexText bs) out ≡ sets out 0 bs)
 text-read-back bs out all some room =
     let both = text-taken bs 0 0 out all (omega (arith, room)) in (
       both .0

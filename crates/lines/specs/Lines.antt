@@ -79,9 +79,9 @@ abbrev pub taken : Line → List ℕ → Line
 taken l [] = l
 taken l (b ∷ t) = taken (next l b) t
 
-abbrev pub filled : Line → List ℕ → List ℕ → List ℕ
-filled l [] out = out
-filled l (b ∷ t) out = filled (next l b) t (kept l b out)
+abbrev pub takenBytes : Line → List ℕ → List ℕ → List ℕ
+takenBytes l [] out = out
+takenBytes l (b ∷ t) out = takenBytes (next l b) t (kept l b out)
 
 unfoldable pub caseOf : ℕ → Case
 caseOf n = pick (eqb n 0) Case.Nothing (pick (eqb (n % 2) 0) (Case.Bytes (n / 2)) Case.Bad)

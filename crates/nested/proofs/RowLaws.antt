@@ -9,7 +9,7 @@ use Rattle.wire.specs.Folds.{joined}
 use Rattle.wire.specs.Answers.{Answer, done, under}
 use Rattle.wire.proofs.Rules.{all-keep}
 use Rattle.wire.proofs.Stores.{store-past}
-use Rattle.nested.specs.Nested.{Row, rowSize, numbers, counted}
+use Rattle.nested.specs.Nested.{Row, rowSize, rowValues, counted}
 
 pub four-stores : (l a b c e : List ℕ) (n i w x y z : ℕ) → i ≡ rowSize * n → a ≡ set l i w → b ≡ set a (i + 1) x → c ≡ set b (i + 2) y → e ≡ set c (i + 3) z
     → e ≡ sets l (rowSize * n) (w ∷ x ∷ y ∷ z ∷ [])
@@ -19,7 +19,7 @@ four-stores l a b c e n i w x y z is p q r t =
     let e3 : i + 3 ≡ suc (suc (suc i)) = omega arith in
     rw (← is, t, r, q, p, e1, e2, e3)
 
-pub joined-length : (rs : List Row) → length (joined numbers rs) ≡ rowSize * length rs
+pub joined-length : (rs : List Row) → length (joined rowValues rs) ≡ rowSize * length rs
 joined-length [] = refl
 joined-length (r ∷ rs) = omega (arith, joined-length rs)
 

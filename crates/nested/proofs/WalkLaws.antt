@@ -36,7 +36,7 @@ use Rattle.body_items.specs.Items.{itemAt, bytesIn, itemsFrom, walkItem, paperI
 use Rattle.body_items.proofs.ItemLaws.{walk-same}
 use Rattle.nested.specs.declared.kinds.Kind.{Kind}
 use Rattle.nested.specs.declared.kinds.Kind.the-variants.{Plain, Packet, Send}
-use Rattle.nested.specs.Nested.{maxDepth, levels, opensAs, held, Row, rowOf, onto, inOrder, messageBy, listed, nested, rowBytes, rowSize, numbers, numbersIn, counted, stored, heldRows, endsAt, Walked}
+use Rattle.nested.specs.Nested.{maxDepth, levels, opensAs, held, Row, rowOf, onto, inOrder, messageBy, listed, nested, rowBytes, rowSize, rowValues, valuesIn, counted, storedRows, heldRows, endsAt, Walked}
 use Rattle.nested.proofs.RowLaws.{joined-length, counted-fits, lent-none}
 use Rattle.nested.proofs.Order.{onto-none, onto-onto, in-order-one}
 use Rattle.nested.proofs.Few.{inside, sent-inside, weight, weight-all, body-held, few}
@@ -65,7 +65,7 @@ pub ruleset item-laws = (item-bytes, item-never)
 walk-no : (w : Answer (List Row)) (e : Refusal) (at : ℕ) (l l′ : List ℕ) → w ≡ refused (number e) → Walked w at (NotCounted e) l l′
 walk-no w e at l l′ p = record { says = rw p; holds = λ rs q. never (sym p ∙ q) }
 
-walk-yes : (w : Answer (List Row)) (rs : List Row) (at n : ℕ) (l l′ : List ℕ) → w ≡ done rs → n ≡ at + length rs → l′ ≡ sets l (rowSize * at) (joined numbers rs)
+walk-yes : (w : Answer (List Row)) (rs : List Row) (at n : ℕ) (l l′ : List ℕ) → w ≡ done rs → n ≡ at + length rs → l′ ≡ sets l (rowSize * at) (joined rowValues rs)
     → Walked w at (Count n) l l′
 walk-yes w rs at n l l′ p e q = record {
   says = ap done e ∙ rw p;
@@ -73,14 +73,14 @@ walk-yes w rs at n l l′ p e q = record {
 }
 
 -- rows, and behind them others
-then-rows : (l m l′ : List ℕ) (a b : List Row) (at n : ℕ) → m ≡ sets l (rowSize * at) (joined numbers a) → n ≡ at + length a → l′ ≡ sets m (rowSize * n) (joined numbers b)
-    → l′ ≡ sets l (rowSize * at) (joined numbers (a ++ b))
+then-rows : (l m l′ : List ℕ) (a b : List Row) (at n : ℕ) → m ≡ sets l (rowSize * at) (joined rowValues a) → n ≡ at + length a → l′ ≡ sets m (rowSize * n) (joined rowValues b)
+    → l′ ≡ sets l (rowSize * at) (joined rowValues (a ++ b))
 then-rows l m l′ a b at n p e q =
-    sets-onto l m l′ (joined numbers a) (joined numbers b) (rowSize * at) (rowSize * n) p (omega (arith, e, joined-length a)) q
-    ∙ ap (λ (x : List ℕ). sets l (rowSize * at) x) (sym (joined-append numbers a b))
+    sets-onto l m l′ (joined rowValues a) (joined rowValues b) (rowSize * at) (rowSize * n) p (omega (arith, e, joined-length a)) q
+    ∙ ap (λ (x : List ℕ). sets l (rowSize * at) x) (sym (joined-append rowValues a b))
 
 -- rows go before what a walk found
-walk-onto : (w : Answer (List Row)) (a : List Row) (at b : ℕ) (r : Counted) (l m l′ : List ℕ) → b ≡ at + length a → m ≡ sets l (rowSize * at) (joined numbers a) → Walked w b r m l′
+walk-onto : (w : Answer (List Row)) (a : List Row) (at b : ℕ) (r : Counted) (l m l′ : List ℕ) → b ≡ at + length a → m ≡ sets l (rowSize * at) (joined rowValues a) → Walked w b r m l′
     → Walked (onto a w) at r l l′
 walk-onto (refused e) a at b r l m l′ p q h = record { says = h .says; holds = λ rs t. never t }
 walk-onto (done c) a at b r l m l′ p q h = record {
@@ -131,7 +131,7 @@ module _ (s : List ℕ) (left at : ℕ) (l : List ℕ) (z : left ≡ 0 → ⊥) 
       walk-no (listed left s) e at l l (rw (← positive left z, y))
 
   module _ (m : MessageRequest) (h : rd ≡ FoundMessage m) (t : List ℕ) (te : t ≡ part s (m .«data_start») (m .«data_len»)) (row : List ℕ)
-      (re : row ≡ sets l (rowSize * at) (numbers (rowOf (levels - left) m))) (k : Kind) (ke : k ≡ opensAs s m) where
+      (re : row ≡ sets l (rowSize * at) (rowValues (rowOf (levels - left) m))) (k : Kind) (ke : k ≡ opensAs s m) where
     opens : listed left s ≡ onto (rowOf (levels - left) m ∷ []) (heldRows k (left - 1) t)
     unfolding listed messageBy heldRows
     opens =
@@ -191,7 +191,7 @@ pub record Turn (s : List ℕ) (left n rest at next : ℕ) (l l′ : List ℕ) :
   pub acc : List Row
   pub spec : heldRows Packet left s ≡ onto acc (inOrder (λ x. listed left x) (itemsFrom rest s n (n - rest)))
   pub place : next ≡ at + length acc
-  pub has : l′ ≡ sets l (rowSize * at) (joined numbers acc)
+  pub has : l′ ≡ sets l (rowSize * at) (joined rowValues acc)
   pub same : length l′ ≡ length l
   pub room : rowBytes * next + weight (itemsFrom rest s n (n - rest)) ≤ maxRecord
 
@@ -269,7 +269,7 @@ module _ (s : List ℕ) (left n rest at next : ℕ) (l l′ : List ℕ) (h : Tur
         pub turn-goes : (m : ℕ) → r ≡ Count m → Turn s left n (rest - 1) at m l l″
         turn-goes m f =
             let v : Got (listed left (bytesIn s (itemAt s n (n - rest)))) next m = got _ next m r (here .says) f in
-            let w : l″ ≡ sets l′ (rowSize * next) (joined numbers (v .them)) = here .holds (v .them) (v .found) in
+            let w : l″ ≡ sets l′ (rowSize * next) (joined rowValues (v .them)) = here .holds (v .them) (v .found) in
             record {
               body = h .body;
               most = omega (arith, h .most);
@@ -280,7 +280,7 @@ module _ (s : List ℕ) (left n rest at next : ℕ) (l l′ : List ℕ) (h : Tur
                   ∙ onto-onto (h .acc) (v .them) (inOrder (λ x. listed left x) (itemsFrom (rest - 1) s n (n - (rest - 1))));
               place = omega (arith, v .ends, h .place, length-append (h .acc) (v .them));
               has = then-rows l l′ l″ (h .acc) (v .them) at next (h .has) (h .place) w;
-              same = ap length w ∙ length-sets l′ (rowSize * next) (joined numbers (v .them)) ∙ h .same;
+              same = ap length w ∙ length-sets l′ (rowSize * next) (joined rowValues (v .them)) ∙ h .same;
               room = omega (arith, weighs, v .ends, few left (bytesIn s (itemAt s n (n - rest))) (v .them) (v .found), ap length xe);
             }
 
@@ -297,8 +297,8 @@ module _ (s out : List ℕ) where
   unfolding counted
   nested-long h = rw (over-limit h)
 
-  pub nested-long-rows : maxRecord < length s → out ≡ stored (nested s) out
-  unfolding counted stored
+  pub nested-long-rows : maxRecord < length s → out ≡ storedRows (nested s) out
+  unfolding counted storedRows
   nested-long-rows h = rw (over-limit h)
 
   -- the first walk, lent no place to store: what comes back in front of the rows is nothing
@@ -315,8 +315,8 @@ module _ (s out : List ℕ) where
       unfolding counted
       nested-no = rw no-rows
 
-      pub nested-no-rows : (m : List ℕ) → m ≡ l′ ++ out → m ≡ stored (nested s) out
-      unfolding counted stored
+      pub nested-no-rows : (m : List ℕ) → m ≡ l′ ++ out → m ≡ storedRows (nested s) out
+      unfolding counted storedRows
       nested-no-rows m g = g ∙ gone ∙ rw no-rows
 
     module _ (n : ℕ) (f : x ≡ Count n) where
@@ -334,9 +334,9 @@ module _ (s out : List ℕ) where
           let y : refused 2 ≡ judged (under (length out) (rowSize * length (all .them)) 2 ∷ []) (done (length (all .them))) = search rules in
           rw (all .found) y
 
-      pub nested-small-rows : (m : List ℕ) → length (l′ ++ out) / rowSize < n → m ≡ l′ ++ out → m ≡ stored (nested s) out
-      unfolding stored
-      nested-small-rows m h g = g ∙ gone ∙ ap (λ (y : Answer ℕ). written y (numbersIn (nested s)) out) (nested-small h)
+      pub nested-small-rows : (m : List ℕ) → length (l′ ++ out) / rowSize < n → m ≡ l′ ++ out → m ≡ storedRows (nested s) out
+      unfolding storedRows
+      nested-small-rows m h g = g ∙ gone ∙ ap (λ (y : Answer ℕ). written y (valuesIn (nested s)) out) (nested-small h)
 
       module _ (h : n ≤ length (l′ ++ out) / rowSize) (y : Counted) (l″ : List ℕ) (c2 : Walked (listed levels s) 0 y (l′ ++ out) l″) where
         fits : rowSize * length (all .them) ≤ length out
@@ -351,13 +351,13 @@ module _ (s out : List ℕ) where
             let z0 : 0 + length (all .them) ≡ length (all .them) = omega arith in
             c2 .says ∙ ap (endsAt 0) (all .found) ∙ ap done z0 ∙ enough
 
-        pub nested-found-rows : l″ ≡ stored (nested s) out
-        unfolding nested stored
+        pub nested-found-rows : l″ ≡ storedRows (nested s) out
+        unfolding nested storedRows
         nested-found-rows =
             c2 .holds (all .them) (all .found)
-            ∙ ap (λ (o : List ℕ). sets o 0 (joined numbers (all .them))) gone
-            ∙ sets-overlay out (joined numbers (all .them)) (omega (arith, fits, joined-length (all .them)))
-            ∙ ap (λ (y : Answer ℕ). written y (joined numbers (all .them)) out) enough
-            ∙ ap (λ (w : Answer (List Row)). written (counted (nested s) (length out)) (numbersIn w) out) (sym (all .found))
+            ∙ ap (λ (o : List ℕ). sets o 0 (joined rowValues (all .them))) gone
+            ∙ sets-overlay out (joined rowValues (all .them)) (omega (arith, fits, joined-length (all .them)))
+            ∙ ap (λ (y : Answer ℕ). written y (joined rowValues (all .them)) out) enough
+            ∙ ap (λ (w : Answer (List Row)). written (counted (nested s) (length out)) (valuesIn w) out) (sym (all .found))
 
 pub ruleset nested-laws = (nested-long, nested-long-rows, nested-no, nested-no-rows, nested-small, nested-small-rows, nested-found, nested-found-rows)

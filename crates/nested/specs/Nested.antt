@@ -125,20 +125,20 @@ maxRows = 16384
 abbrev pub rowSize : ℕ
 rowSize = 4
 
-abbrev pub numbers : Row → List ℕ
-numbers r = r .depth ∷ r .service ∷ r .pathLen ∷ r .dataLen ∷ []
+abbrev pub rowValues : Row → List ℕ
+rowValues r = r .depth ∷ r .service ∷ r .pathLen ∷ r .dataLen ∷ []
 
-abbrev pub numbersIn : Answer (List Row) → List ℕ
-numbersIn (done rs) = joined numbers rs
-numbersIn (refused k) = []
+abbrev pub valuesIn : Answer (List Row) → List ℕ
+valuesIn (done rs) = joined rowValues rs
+valuesIn (refused k) = []
 
 -- how many messages there are, where the lent run has a place for each number (2)
 unfoldable pub counted : Answer (List Row) → ℕ → Answer ℕ
 counted w room = andThen w (λ rs. judged (under room (rowSize * length rs) 2 ∷ []) (done (length rs)))
 
 -- what the lent run holds then
-unfoldable pub stored : Answer (List Row) → List ℕ → List ℕ
-stored w old = written (counted w (length old)) (numbersIn w) old
+unfoldable pub storedRows : Answer (List Row) → List ℕ → List ℕ
+storedRows w old = written (counted w (length old)) (valuesIn w) old
 
 -- ---- what a walk leaves: from row `at` on, as far as they fit, the rows that are in w
 
@@ -151,4 +151,4 @@ endsAt at (refused k) = refused k
 
 pub record Walked (w : Answer (List Row)) (at : ℕ) (r : Counted) (l l′ : List ℕ) : Type 0 where
   pub says : paperCount r ≡ endsAt at w
-  pub holds : (rs : List Row) → w ≡ done rs → l′ ≡ sets l (rowSize * at) (joined numbers rs)
+  pub holds : (rs : List Row) → w ≡ done rs → l′ ≡ sets l (rowSize * at) (joined rowValues rs)

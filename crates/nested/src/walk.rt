@@ -20,7 +20,7 @@ ghost use Rattle.connection.specs.Limits.{maxRecord};
 ghost use Rattle.body_read.specs.Reads.{readBody};
 ghost use Rattle.body_items.specs.Items.{itemAt, bytesIn};
 ghost use Rattle.nested.specs.declared.kinds.Kind.the-variants.{Packet, Send};
-ghost use Rattle.nested.specs.Nested.{maxDepth, levels, rowBytes, listed, heldRows, Walked, nested, counted, stored};
+ghost use Rattle.nested.specs.Nested.{maxDepth, levels, rowBytes, listed, heldRows, Walked, nested, counted, storedRows};
 
 // The outermost message's own, and those below it.
 const LEVELS: usize = crate::MAX_DEPTH + 1;
@@ -102,7 +102,7 @@ fn walk_send(s: &[u8], left: usize, rows: &mut [u16], at: usize) -> Counted
 // The first walk is lent no place to store, so that a refusal leaves every row as it stood.
 pub fn read_nested(s: &[u8], rows: &mut [u16]) -> Counted
     ensures { λ r. ⌜ paperCount r ≡ counted (nested (now (s .entry))) (length (now (rows .entry))) ⌝ }
-    ensures { λ _. ⌜ now (rows .exit) ≡ stored (nested (now (s .entry))) (now (rows .entry)) ⌝ }
+    ensures { λ _. ⌜ now (rows .exit) ≡ storedRows (nested (now (s .entry))) (now (rows .entry)) ⌝ }
 {
     if connection::MAX_RECORD < s.len() {
         return Counted::Refused(Refusal::Limit);

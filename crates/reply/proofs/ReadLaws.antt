@@ -21,7 +21,7 @@ use Rattle.reply_header.specs.declared.MessageReply.{MessageReply}
 use Rattle.reply_header.specs.declared.ReplyRead.{ReplyRead}
 use Rattle.reply_header.specs.declared.ReplyRead.the-variants.{Found as FoundReply, Refused as NoReply}
 use Rattle.reply_header.proofs.HeaderLaws.{Header, header-was}
-use Rattle.reply.specs.Reads.{Reply, succeeded, failed, appData, failSize, remainingAt, failAt, readFail, successData, failureData, replyData, readReply, openAt, closeAt, paperFail}
+use Rattle.reply.specs.Reads.{Reply, succeeded, failed, appData, failSize, remainingAt, failAt, readFail, successData, failureData, replyData, readReply, openSuccessAt, closeSuccessAt, paperFail}
 use Rattle.reply.specs.declared.failure.FailRead.{FailRead}
 use Rattle.reply.specs.declared.failure.FailRead.the-variants.{Found, Refused as NoFail}
 
@@ -54,11 +54,11 @@ module _ (s : List ℕ) (at : ℕ) where
         «originator_serial_number» = e;
         «o_t_api» = f;
         «t_o_api» = g;
-      } ≡ openAt s at
+      } ≡ openSuccessAt s at
   open-record a b c d e f g h i j k l m n = rw (h, i, j, k, l, m, n)
 
   pub close-record : (a b c : ℕ) → a ≡ valueOf 2 (drop at s) → b ≡ valueOf 2 (drop (at + 2) s) → c ≡ valueOf 4 (drop (at + 4) s)
-      → record { «connection_serial_number» = a; «originator_vendor_id» = b; «originator_serial_number» = c } ≡ closeAt s at
+      → record { «connection_serial_number» = a; «originator_vendor_id» = b; «originator_serial_number» = c } ≡ closeSuccessAt s at
   close-record a b c h i j = rw (h, i, j)
 
   module _ (routing : Bool) where

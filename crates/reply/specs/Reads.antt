@@ -73,8 +73,8 @@ module _ {A : Type 0} (fields : List ℕ → ℕ → A) (size : ℕ) (routing : 
 
 -- ---- Forward Open: 24 bytes of fields
 
-abbrev pub openAt : List ℕ → ℕ → ForwardOpenSuccess
-openAt s at = record {
+abbrev pub openSuccessAt : List ℕ → ℕ → ForwardOpenSuccess
+openSuccessAt s at = record {
   «o_t_connection_id» = valueOf 4 (drop at s);
   «t_o_connection_id» = valueOf 4 (drop (at + 4) s);
   «connection_serial_number» = valueOf 2 (drop (at + 8) s);
@@ -85,19 +85,19 @@ openAt s at = record {
 }
 
 abbrev pub readOpenReply : Bool → List ℕ → Answer (Reply ForwardOpenSuccess)
-readOpenReply = readReply openAt 24
+readOpenReply = readReply openSuccessAt 24
 
 -- ---- Forward Close: 8 bytes of fields
 
-abbrev pub closeAt : List ℕ → ℕ → ForwardCloseSuccess
-closeAt s at = record {
+abbrev pub closeSuccessAt : List ℕ → ℕ → ForwardCloseSuccess
+closeSuccessAt s at = record {
   «connection_serial_number» = valueOf 2 (drop at s);
   «originator_vendor_id» = valueOf 2 (drop (at + 2) s);
   «originator_serial_number» = valueOf 4 (drop (at + 4) s);
 }
 
 abbrev pub readCloseReply : Bool → List ℕ → Answer (Reply ForwardCloseSuccess)
-readCloseReply = readReply closeAt 8
+readCloseReply = readReply closeSuccessAt 8
 
 -- ---- what the functions answer
 

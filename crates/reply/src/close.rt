@@ -13,11 +13,11 @@ use wire_read::u16_at;
 use wire_read::u32_at;
 ghost use mathlib.Core.Path.{_≡_};
 ghost use Prim.Native.Nat.{_≤_};
-ghost use Rattle.reply.specs.Reads.{closeAt, replyData, readCloseReply, paperCloseReply};
+ghost use Rattle.reply.specs.Reads.{closeSuccessAt, replyData, readCloseReply, paperCloseReply};
 
 fn close_at(s: &[u8], at: usize) -> ForwardCloseSuccess
     requires { ⌜ at ≤ 70000 ⌝ }
-    ensures { λ r. ⌜ r ≡ closeAt (now (s .entry)) at ⌝ }
+    ensures { λ r. ⌜ r ≡ closeSuccessAt (now (s .entry)) at ⌝ }
 {
     ForwardCloseSuccess {
         connection_serial_number: u16_at(s, at),
@@ -29,7 +29,7 @@ fn close_at(s: &[u8], at: usize) -> ForwardCloseSuccess
 // What follows the header.
 fn close_data(routing: bool, s: &[u8], m: MessageReply) -> CloseReplyRead
     requires { ⌜ m .«data_start» ≤ 1000 ⌝ }
-    ensures { λ r. ⌜ paperCloseReply r ≡ replyData closeAt 8 routing (now (s .entry)) m ⌝ }
+    ensures { λ r. ⌜ paperCloseReply r ≡ replyData closeSuccessAt 8 routing (now (s .entry)) m ⌝ }
 {
     let at = m.data_start;
     if is_ok(m.status) {

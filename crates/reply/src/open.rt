@@ -13,11 +13,11 @@ use wire_read::u16_at;
 use wire_read::u32_at;
 ghost use mathlib.Core.Path.{_≡_};
 ghost use Prim.Native.Nat.{_≤_};
-ghost use Rattle.reply.specs.Reads.{openAt, replyData, readOpenReply, paperOpenReply};
+ghost use Rattle.reply.specs.Reads.{openSuccessAt, replyData, readOpenReply, paperOpenReply};
 
 fn open_at(s: &[u8], at: usize) -> ForwardOpenSuccess
     requires { ⌜ at ≤ 70000 ⌝ }
-    ensures { λ r. ⌜ r ≡ openAt (now (s .entry)) at ⌝ }
+    ensures { λ r. ⌜ r ≡ openSuccessAt (now (s .entry)) at ⌝ }
 {
     ForwardOpenSuccess {
         o_t_connection_id: u32_at(s, at),
@@ -33,7 +33,7 @@ fn open_at(s: &[u8], at: usize) -> ForwardOpenSuccess
 // What follows the header.
 fn open_data(routing: bool, s: &[u8], m: MessageReply) -> OpenReplyRead
     requires { ⌜ m .«data_start» ≤ 1000 ⌝ }
-    ensures { λ r. ⌜ paperOpenReply r ≡ replyData openAt 24 routing (now (s .entry)) m ⌝ }
+    ensures { λ r. ⌜ paperOpenReply r ≡ replyData openSuccessAt 24 routing (now (s .entry)) m ⌝ }
 {
     let at = m.data_start;
     if is_ok(m.status) {

@@ -16,16 +16,16 @@ use Rattle.reply_header.specs.Headers.{extendedFields, headerFields}
 use Rattle.reply_header.specs.declared.ExtendedStatus.{ExtendedStatus}
 use Rattle.reply_header.specs.declared.ExtendedStatus.the-variants.{Absent as NoWord, Word}
 use Rattle.reply_header.specs.declared.Status.{Status}
-use Rattle.reply_encode.specs.Replies.{success, appFields, openFields, closeFields, remainingFields, failureFields, openReplyBytes, closeReplyBytes, failureBytes}
-use Rattle.reply_encode.specs.Sizes.{openBase, closeBase, wordWidth, remainingWidth, failureWidth}
+use Rattle.reply_encode.specs.Replies.{success, appFields, openSuccessFields, closeSuccessFields, remainingFields, failureFields, openReplyBytes, closeReplyBytes, failureBytes}
+use Rattle.reply_encode.specs.Sizes.{openSuccessBase, closeSuccessBase, wordWidth, remainingWidth, failureWidth}
 
-pub open-reply-length : (service : ℕ) (o : ForwardOpenSuccess) (app : List ℕ) → length (openReplyBytes service o app) ≡ openBase + length app
+pub open-reply-length : (service : ℕ) (o : ForwardOpenSuccess) (app : List ℕ) → length (openReplyBytes service o app) ≡ openSuccessBase + length app
 unfolding openReplyBytes
-open-reply-length service o app = laid-size (headerFields service success ++ (openFields o ++ appFields app)) app
+open-reply-length service o app = laid-size (headerFields service success ++ (openSuccessFields o ++ appFields app)) app
 
-pub close-reply-length : (service : ℕ) (c : ForwardCloseSuccess) (app : List ℕ) → length (closeReplyBytes service c app) ≡ closeBase + length app
+pub close-reply-length : (service : ℕ) (c : ForwardCloseSuccess) (app : List ℕ) → length (closeReplyBytes service c app) ≡ closeSuccessBase + length app
 unfolding closeReplyBytes
-close-reply-length service c app = laid-size (headerFields service success ++ (closeFields c ++ appFields app)) app
+close-reply-length service c app = laid-size (headerFields service success ++ (closeSuccessFields c ++ appFields app)) app
 
 -- behind the general status: 9 bytes, and what an extended word and a remaining path size add
 rest : (x : ExtendedStatus) (y : RemainingPathSize) (serial vendor originator : ℕ)

@@ -16,7 +16,7 @@ use Rattle.connection.specs.declared.RemainingPathSize.{RemainingPathSize}
 use Rattle.reply_header.specs.declared.ExtendedStatus.{ExtendedStatus}
 use Rattle.reply_header.specs.declared.Status.{Status}
 use Rattle.reply_encode.specs.Replies.{openReplyBytes, closeReplyBytes, failureBytes}
-use Rattle.reply_encode.specs.Sizes.{openBase, closeBase, appRules, successSize, wordWidth, remainingWidth, failureWidth, failureSize}
+use Rattle.reply_encode.specs.Sizes.{openSuccessBase, closeSuccessBase, appRules, successSize, wordWidth, remainingWidth, failureWidth, failureSize}
 use Rattle.reply_encode.proofs.Lengths.{open-reply-length, close-reply-length, failure-length}
 
 -- ---- forwards: what the code's ends answer
@@ -65,11 +65,11 @@ module _ (r : Wrote) (size : ℕ) (h : r ≡ Size size) where
     sum : size ≡ base + length app
     sum = let e : done (base + length app) ≡ done size = were .1 in cc
 
-  pub open-sized : (service : ℕ) (o : ForwardOpenSuccess) (app : List ℕ) → paperSize r ≡ successSize openBase app → size ≡ length (openReplyBytes service o app)
-  open-sized service o app is = sum openBase app is ∙ sym (open-reply-length service o app)
+  pub open-sized : (service : ℕ) (o : ForwardOpenSuccess) (app : List ℕ) → paperSize r ≡ successSize openSuccessBase app → size ≡ length (openReplyBytes service o app)
+  open-sized service o app is = sum openSuccessBase app is ∙ sym (open-reply-length service o app)
 
-  pub close-sized : (service : ℕ) (c : ForwardCloseSuccess) (app : List ℕ) → paperSize r ≡ successSize closeBase app → size ≡ length (closeReplyBytes service c app)
-  close-sized service c app is = sum closeBase app is ∙ sym (close-reply-length service c app)
+  pub close-sized : (service : ℕ) (c : ForwardCloseSuccess) (app : List ℕ) → paperSize r ≡ successSize closeSuccessBase app → size ≡ length (closeReplyBytes service c app)
+  close-sized service c app is = sum closeSuccessBase app is ∙ sym (close-reply-length service c app)
 
   pub failure-sized : (service : ℕ) (s : Status) (f : ForwardRequestFail) → paperSize r ≡ failureSize s f → size ≡ length (failureBytes service s f)
   unfolding failureSize

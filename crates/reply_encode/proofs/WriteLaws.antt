@@ -9,7 +9,7 @@ use mir.Val.{Fits}
 use mir.Syntax.{w64}
 use Rattle.wire.specs.Numbers.{lowFirst}
 use Rattle.wire.specs.Answers.{Put}
-use Rattle.wire.specs.Records.{Field, byte, number, bytesOf, laid, widths}
+use Rattle.wire.specs.Records.{Field, byte, num, bytesOf, laid, widths}
 use Rattle.wire.proofs.Stores.{sets-append}
 use Rattle.wire.proofs.Folds.{joined-append}
 use Rattle.wire.proofs.Records.{laid-length, laid-more}
@@ -23,16 +23,16 @@ use Rattle.reply_header.specs.Headers.{extendedFields, headerFields}
 use Rattle.reply_header.specs.declared.ExtendedStatus.{ExtendedStatus}
 use Rattle.reply_header.specs.declared.ExtendedStatus.the-variants.{Absent as NoWord, Word}
 use Rattle.reply_header.specs.declared.Status.{Status}
-use Rattle.reply_encode.specs.Replies.{bothWays, appFields, openFields, closeFields, failureFields, openReplyBytes, closeReplyBytes, failureBytes, withFields}
-use Rattle.reply_encode.specs.Sizes.{openBase, closeBase}
+use Rattle.reply_encode.specs.Replies.{bothWays, appFields, openSuccessFields, closeSuccessFields, failureFields, openReplyBytes, closeReplyBytes, failureBytes, withFields}
+use Rattle.reply_encode.specs.Sizes.{openSuccessBase, closeSuccessBase}
 
 -- ---- parts, at any place
 module _ (old : List ℕ) (at : ℕ) where
   pub pair-put : (x y : ℕ) (a b : List ℕ) → a ≡ sets old at (lowFirst 4 x) → b ≡ sets a (at + 4) (lowFirst 4 y) → b ≡ withFields old at (bothWays x y)
   unfolding withFields
   pair-put x y a b e f =
-      let g : a ≡ sets old at (laid (number 4 x ∷ [])) = laid-more [] (number 4 x) old old a at at refl (omega arith) e in
-      laid-more (number 4 x ∷ []) (number 4 y) old a b at (at + 4) g (omega arith) f
+      let g : a ≡ sets old at (laid (num 4 x ∷ [])) = laid-more [] (num 4 x) old old a at at refl (omega arith) e in
+      laid-more (num 4 x ∷ []) (num 4 y) old a b at (at + 4) g (omega arith) f
 
   pub triad-stored : (serial vendor originator : ℕ) (a b c : List ℕ) → a ≡ sets old at (lowFirst 2 serial) → b ≡ sets a (at + 2) (lowFirst 2 vendor)
       → c ≡ sets b (at + 4) (lowFirst 4 originator) → c ≡ withFields old at (triad serial vendor originator)
@@ -46,17 +46,17 @@ module _ (old : List ℕ) (at : ℕ) where
 -- ---- success
 pub open-fields : (o : ForwardOpenSuccess) (old a b c : List ℕ) → a ≡ withFields old 4 (bothWays (o .«o_t_connection_id») (o .«t_o_connection_id»))
     → b ≡ withFields a 12 (triad (o .«connection_serial_number») (o .«originator_vendor_id») (o .«originator_serial_number»))
-    → c ≡ withFields b 20 (bothWays (o .«o_t_api») (o .«t_o_api»)) → c ≡ withFields old 4 (openFields o)
+    → c ≡ withFields b 20 (bothWays (o .«o_t_api») (o .«t_o_api»)) → c ≡ withFields old 4 (openSuccessFields o)
 unfolding withFields
 open-fields o old a b c e f g = g ∙ rw (f, e)
 
 module _ (service : ℕ) (app old a : List ℕ) (e : a ≡ sets old 0 (service ∷ 0 ∷ 0 ∷ 0 ∷ [])) where
-  pub open-put : (o : ForwardOpenSuccess) (b c : List ℕ) → b ≡ withFields a 4 (openFields o) → c ≡ sets (withFields b 28 (appFields app)) openBase app
+  pub open-put : (o : ForwardOpenSuccess) (b c : List ℕ) → b ≡ withFields a 4 (openSuccessFields o) → c ≡ sets (withFields b 28 (appFields app)) openSuccessBase app
       → c ≡ sets old 0 (openReplyBytes service o app)
   unfolding withFields openReplyBytes
   open-put o b c f g = g ∙ rw (f, e)
 
-  pub close-put : (m : ForwardCloseSuccess) (b c : List ℕ) → b ≡ withFields a 4 (closeFields m) → c ≡ sets (withFields b 12 (appFields app)) closeBase app
+  pub close-put : (m : ForwardCloseSuccess) (b c : List ℕ) → b ≡ withFields a 4 (closeSuccessFields m) → c ≡ sets (withFields b 12 (appFields app)) closeSuccessBase app
       → c ≡ sets old 0 (closeReplyBytes service m app)
   unfolding withFields closeReplyBytes
   close-put m b c f g = g ∙ rw (f, e)

@@ -4,7 +4,7 @@ use Prim.Native.Nat.{ℕ, _/_}
 use mathlib.Core.List.{List, [], _∷_, _++_}
 use lib.ListN.{length}
 use lib.Seq.{sets}
-use Rattle.wire.specs.Records.{Field, byte, number, laid}
+use Rattle.wire.specs.Records.{Field, byte, num, laid}
 use Rattle.connection.specs.declared.ForwardOpenSuccess.{ForwardOpenSuccess}
 use Rattle.connection.specs.declared.ForwardCloseSuccess.{ForwardCloseSuccess}
 use Rattle.connection.specs.declared.ForwardRequestFail.{ForwardRequestFail}
@@ -22,28 +22,28 @@ success = record { general = 0; extended = NoWord }
 
 -- two numbers: from originator to target, and back
 abbrev pub bothWays : ℕ → ℕ → List Field
-bothWays toTarget toOriginator = number 4 toTarget ∷ number 4 toOriginator ∷ []
+bothWays toTarget toOriginator = num 4 toTarget ∷ num 4 toOriginator ∷ []
 
 -- what stands before application data: its size in words, a reserved byte
 abbrev pub appFields : List ℕ → List Field
 appFields app = byte (length app / 2) ∷ byte 0 ∷ []
 
 -- ids, what names the connection, actual packet intervals
-abbrev pub openFields : ForwardOpenSuccess → List Field
-openFields o =
+abbrev pub openSuccessFields : ForwardOpenSuccess → List Field
+openSuccessFields o =
     bothWays (o .«o_t_connection_id») (o .«t_o_connection_id»)
     ++ (triad (o .«connection_serial_number») (o .«originator_vendor_id») (o .«originator_serial_number»)
     ++ bothWays (o .«o_t_api») (o .«t_o_api»))
 
-abbrev pub closeFields : ForwardCloseSuccess → List Field
-closeFields c = triad (c .«connection_serial_number») (c .«originator_vendor_id») (c .«originator_serial_number»)
+abbrev pub closeSuccessFields : ForwardCloseSuccess → List Field
+closeSuccessFields c = triad (c .«connection_serial_number») (c .«originator_vendor_id») (c .«originator_serial_number»)
 
 -- header, fields, application data
 unfoldable pub openReplyBytes : ℕ → ForwardOpenSuccess → List ℕ → List ℕ
-openReplyBytes service o app = laid (headerFields service success ++ (openFields o ++ appFields app)) ++ app
+openReplyBytes service o app = laid (headerFields service success ++ (openSuccessFields o ++ appFields app)) ++ app
 
 unfoldable pub closeReplyBytes : ℕ → ForwardCloseSuccess → List ℕ → List ℕ
-closeReplyBytes service c app = laid (headerFields service success ++ (closeFields c ++ appFields app)) ++ app
+closeReplyBytes service c app = laid (headerFields service success ++ (closeSuccessFields c ++ appFields app)) ++ app
 
 -- ---- failure, of an open or of a close: what names the connection; for a routing error the size of the path that was left, in words
 

@@ -13,11 +13,11 @@ use Rattle.reply_header.specs.declared.ExtendedStatus.the-variants.{Absent as N
 use Rattle.reply_header.specs.declared.Status.{Status}
 
 -- what stands before the application data, header included
-abbrev pub openBase : ℕ
-openBase = 30
+abbrev pub openSuccessBase : ℕ
+openSuccessBase = 30
 
-abbrev pub closeBase : ℕ
-closeBase = 14
+abbrev pub closeSuccessBase : ℕ
+closeSuccessBase = 14
 
 -- application data over its limit is 3, odd application data 5
 abbrev pub appRules : List ℕ → List Rule

@@ -11,7 +11,7 @@ ghost use mathlib.Core.Path.{_≡_};
 ghost use lib.ListN.{length};
 ghost use Rattle.wire.specs.Answers.{paperSize, withRoom, written};
 ghost use Rattle.reply_encode.specs.Replies.{closeReplyBytes};
-ghost use Rattle.reply_encode.specs.Sizes.{closeBase, successSize};
+ghost use Rattle.reply_encode.specs.Sizes.{closeSuccessBase, successSize};
 
 // Bytes before the application data; its twin stands in specs/Sizes.antt.
 const CLOSE_BASE: usize = 14;
@@ -23,8 +23,8 @@ pub fn write_forward_close_success(
     app_data: &[u8],
     out: &mut [u8],
 ) -> Wrote
-    ensures answer { λ r. ⌜ paperSize r ≡ withRoom (successSize closeBase (now («app_data» .entry))) (length (now (out .entry))) ⌝ }
-    ensures bytes { λ _. ⌜ now (out .exit) ≡ written (withRoom (successSize closeBase (now («app_data» .entry))) (length (now (out .entry)))) (closeReplyBytes service c (now («app_data» .entry))) (now (out .entry)) ⌝ }
+    ensures answer { λ r. ⌜ paperSize r ≡ withRoom (successSize closeSuccessBase (now («app_data» .entry))) (length (now (out .entry))) ⌝ }
+    ensures bytes { λ _. ⌜ now (out .exit) ≡ written (withRoom (successSize closeSuccessBase (now («app_data» .entry))) (length (now (out .entry)))) (closeReplyBytes service c (now («app_data» .entry))) (now (out .entry)) ⌝ }
 {
     match success_size(CLOSE_BASE, app_data) {
         Wrote::Refused(e) => Wrote::Refused(e),

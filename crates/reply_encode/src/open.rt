@@ -12,8 +12,8 @@ ghost use mathlib.Core.Path.{_≡_};
 ghost use Prim.Native.Nat.{_≤_};
 ghost use lib.ListN.{length};
 ghost use Rattle.wire.specs.Answers.{paperSize, withRoom, written};
-ghost use Rattle.reply_encode.specs.Replies.{bothWays, openFields, openReplyBytes, withFields};
-ghost use Rattle.reply_encode.specs.Sizes.{openBase, successSize};
+ghost use Rattle.reply_encode.specs.Replies.{bothWays, openSuccessFields, openReplyBytes, withFields};
+ghost use Rattle.reply_encode.specs.Sizes.{openSuccessBase, successSize};
 
 // Bytes before the application data; its twin stands in specs/Sizes.antt.
 const OPEN_BASE: usize = 30;
@@ -29,7 +29,7 @@ fn put_pair(out: &mut [u8], at: usize, to_target: u32, to_originator: u32)
 
 // What stands between the header and the application data.
 fn put_open_fields(out: &mut [u8], o: ForwardOpenSuccess)
-    ensures { λ _. ⌜ now (out .exit) ≡ withFields (now (out .entry)) 4 (openFields o) ⌝ }
+    ensures { λ _. ⌜ now (out .exit) ≡ withFields (now (out .entry)) 4 (openSuccessFields o) ⌝ }
 {
     put_pair(out, 4, o.o_t_connection_id, o.t_o_connection_id);
     put_triad(
@@ -49,8 +49,8 @@ pub fn write_forward_open_success(
     app_data: &[u8],
     out: &mut [u8],
 ) -> Wrote
-    ensures answer { λ r. ⌜ paperSize r ≡ withRoom (successSize openBase (now («app_data» .entry))) (length (now (out .entry))) ⌝ }
-    ensures bytes { λ _. ⌜ now (out .exit) ≡ written (withRoom (successSize openBase (now («app_data» .entry))) (length (now (out .entry)))) (openReplyBytes service o (now («app_data» .entry))) (now (out .entry)) ⌝ }
+    ensures answer { λ r. ⌜ paperSize r ≡ withRoom (successSize openSuccessBase (now («app_data» .entry))) (length (now (out .entry))) ⌝ }
+    ensures bytes { λ _. ⌜ now (out .exit) ≡ written (withRoom (successSize openSuccessBase (now («app_data» .entry))) (length (now (out .entry)))) (openReplyBytes service o (now («app_data» .entry))) (now (out .entry)) ⌝ }
 {
     match success_size(OPEN_BASE, app_data) {
         Wrote::Refused(e) => Wrote::Refused(e),

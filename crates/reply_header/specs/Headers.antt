@@ -6,8 +6,8 @@ use lib.ListN.{length, getD, drop}
 use lib.Dec.{eqb}
 use Rattle.wire.specs.Choice.{pick}
 use Rattle.wire.specs.Numbers.{valueOf}
-use Rattle.wire.specs.Refusals.{number as numberOf}
-use Rattle.wire.specs.Records.{Field, byte, number}
+use Rattle.wire.specs.Refusals.{number}
+use Rattle.wire.specs.Records.{Field, byte, num}
 use Rattle.wire.specs.Answers.{Answer, done, refused, Rule, under, over, judged}
 use Rattle.connection.specs.Limits.{maxRecord}
 use Rattle.reply_header.specs.declared.ExtendedStatus.{ExtendedStatus}
@@ -21,7 +21,7 @@ use Rattle.reply_header.specs.declared.ReplyRead.the-variants.{Found, Re
 
 abbrev pub extendedFields : ExtendedStatus → List Field
 extendedFields Absent = byte 0 ∷ []
-extendedFields (Word w) = byte 1 ∷ number 2 w ∷ []
+extendedFields (Word w) = byte 1 ∷ num 2 w ∷ []
 
 abbrev pub headerFields : ℕ → Status → List Field
 headerFields service s = byte service ∷ byte 0 ∷ byte (s .general) ∷ extendedFields (s .extended)
@@ -62,4 +62,4 @@ readHeader s = judged (headerRules s) (done (replyAt s))
 
 abbrev pub paperReply : ReplyRead → Answer MessageReply
 paperReply (Found m) = done m
-paperReply (Refused e) = refused (numberOf e)
+paperReply (Refused e) = refused (number e)

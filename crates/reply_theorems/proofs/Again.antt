@@ -24,8 +24,8 @@ use Rattle.reply_header.specs.declared.ExtendedStatus.{ExtendedStatus}
 use Rattle.reply_header.specs.declared.ExtendedStatus.the-variants.{Absent, Word}
 use Rattle.reply_header.specs.declared.MessageReply.{MessageReply}
 use Rattle.reply_header.proofs.HeaderLaws.{Header, header-was}
-use Rattle.reply_encode.specs.Replies.{success, appFields, openFields, closeFields, openReplyBytes, closeReplyBytes, failureFields, failureBytes}
-use Rattle.reply.specs.Reads.{succeeded, failed, appData, failSize, failAt, readFail, replyData, readReply, openAt, readOpenReply, closeAt, readCloseReply}
+use Rattle.reply_encode.specs.Replies.{success, appFields, openSuccessFields, closeSuccessFields, openReplyBytes, closeReplyBytes, failureFields, failureBytes}
+use Rattle.reply.specs.Reads.{succeeded, failed, appData, failSize, failAt, readFail, replyData, readReply, openSuccessAt, readOpenReply, closeSuccessAt, readCloseReply}
 
 -- ---- what an accepted success says of the input
 pub record SuccessWas {A : Type 0} (fields : List ℕ → ℕ → A) (size : ℕ) (s : List ℕ) (m : MessageReply) (x : A) (start len : ℕ) : Type 0 where
@@ -142,10 +142,10 @@ pub open-reply-written-of-read : (routing : Bool) (s : List ℕ) (m : MessageRep
     → s ≡ openReplyBytes (m .«reply_service») o (part s start len) ++ drop (start + len) s
 unfolding openReplyBytes
 open-reply-written-of-read routing s m o start len b h p =
-    let w : SuccessWas openAt 24 s m o start len = success-was openAt 24 routing s m o start len h in
-    let q : PlainWas openAt 24 s m o start len = plain-was openAt 24 s m o start len w p in
-    again s start len (headerFields 0 success ++ (openFields (openAt s 4) ++ appFields []))
-    (headerFields (m .«reply_service») success ++ (openFields o ++ appFields (part s start len))) b (w .here) (q .starts)
+    let w : SuccessWas openSuccessAt 24 s m o start len = success-was openSuccessAt 24 routing s m o start len h in
+    let q : PlainWas openSuccessAt 24 s m o start len = plain-was openSuccessAt 24 s m o start len w p in
+    again s start len (headerFields 0 success ++ (openSuccessFields (openSuccessAt s 4) ++ appFields []))
+    (headerFields (m .«reply_service») success ++ (openSuccessFields o ++ appFields (part s start len))) b (w .here) (q .starts)
     (rw (q .service, p .first, q .general, q .words, q .sized, q .reserved, ← q .fields-are))
 
 -- ---- Forward Close
@@ -155,10 +155,10 @@ pub close-reply-written-of-read : (routing : Bool) (s : List ℕ) (m : MessageRe
     → s ≡ closeReplyBytes (m .«reply_service») c (part s start len) ++ drop (start + len) s
 unfolding closeReplyBytes
 close-reply-written-of-read routing s m c start len b h p =
-    let w : SuccessWas closeAt 8 s m c start len = success-was closeAt 8 routing s m c start len h in
-    let q : PlainWas closeAt 8 s m c start len = plain-was closeAt 8 s m c start len w p in
-    again s start len (headerFields 0 success ++ (closeFields (closeAt s 4) ++ appFields []))
-    (headerFields (m .«reply_service») success ++ (closeFields c ++ appFields (part s start len))) b (w .here) (q .starts)
+    let w : SuccessWas closeSuccessAt 8 s m c start len = success-was closeSuccessAt 8 routing s m c start len h in
+    let q : PlainWas closeSuccessAt 8 s m c start len = plain-was closeSuccessAt 8 s m c start len w p in
+    again s start len (headerFields 0 success ++ (closeSuccessFields (closeSuccessAt s 4) ++ appFields []))
+    (headerFields (m .«reply_service») success ++ (closeSuccessFields c ++ appFields (part s start len))) b (w .here) (q .starts)
     (rw (q .service, p .first, q .general, q .words, q .sized, q .reserved, ← q .fields-are))
 
 -- ---- failure: where the byte behind the service is zero

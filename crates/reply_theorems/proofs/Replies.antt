@@ -9,7 +9,7 @@ use lib.ListN.{length, getD, drop, length-append}
 use Rattle.wire.specs.Numbers.{valueOf}
 use Rattle.wire.specs.Parts.{part}
 use Rattle.wire.specs.Answers.{done, under}
-use Rattle.wire.specs.Records.{Field, byte, number, bytesOf, laid, widths, AllHold, fieldsAt}
+use Rattle.wire.specs.Records.{Field, byte, num, bytesOf, laid, widths, AllHold, fieldsAt}
 use Rattle.wire.proofs.Rules.{all-keep, then-done}
 use Rattle.wire.proofs.Choice.{pick-past}
 use Rattle.wire.proofs.Folds.{joined-append}
@@ -26,8 +26,8 @@ use Rattle.reply_header.specs.Statuses.{isOk}
 use Rattle.reply_header.specs.Headers.{headerFields, readHeader}
 use Rattle.reply_header.specs.declared.Status.{Status}
 use Rattle.reply_header.specs.declared.MessageReply.{MessageReply}
-use Rattle.reply_encode.specs.Replies.{success, appFields, openFields, closeFields, openReplyBytes, closeReplyBytes, remainingFields, failureFields, failureBytes}
-use Rattle.reply.specs.Reads.{succeeded, failed, appData, failSize, remainingAt, failAt, readFail, replyData, readReply, openAt, readOpenReply, closeAt, readCloseReply}
+use Rattle.reply_encode.specs.Replies.{success, appFields, openSuccessFields, closeSuccessFields, openReplyBytes, closeReplyBytes, remainingFields, failureFields, failureBytes}
+use Rattle.reply.specs.Reads.{succeeded, failed, appData, failSize, remainingAt, failAt, readFail, replyData, readReply, openSuccessAt, readOpenReply, closeSuccessAt, readCloseReply}
 use Rattle.reply_theorems.proofs.Headers.{headed, WordFits, header-read-of-written}
 
 -- ---- application data that a writer takes
@@ -52,7 +52,7 @@ both-hold (x ∷ a) b h g = (h .0, both-hold a b (h .1) g)
 -- the number in a field of a list
 worth : Field → ℕ
 worth (byte v) = v
-worth (number k v) = v
+worth (num k v) = v
 
 nth : ℕ → List Field → ℕ
 nth i fs = getD (map worth fs) i 0
@@ -98,11 +98,11 @@ pub record OpenBack (routing : Bool) (service : ℕ) (o : ForwardOpenSuccess) (a
       ≡ done (succeeded (headed service success (26 + length app + length rest)) o 30 (length app))
   pub app-is : part (openReplyBytes service o app ++ rest) 30 (length app) ≡ app
 
-pub open-reply-read-of-written : (routing : Bool) (service : ℕ) (o : ForwardOpenSuccess) (app rest : List ℕ) → service < 256 → AllHold (openFields o) → AppFits app
+pub open-reply-read-of-written : (routing : Bool) (service : ℕ) (o : ForwardOpenSuccess) (app rest : List ℕ) → service < 256 → AllHold (openSuccessFields o) → AppFits app
     → 30 + length app + length rest ≤ maxRecord → OpenBack routing service o app rest
 unfolding openReplyBytes nth worth
 open-reply-read-of-written routing service o app rest b h f small =
-    let fs : List Field = openFields o in
+    let fs : List Field = openSuccessFields o in
     let F : List Field = record-of service fs app rest in
     let s : List ℕ = reply-of service fs app rest in
     let p : drop 0 s ≡ laid F ++ (app ++ rest) = here service fs app rest in
@@ -116,7 +116,7 @@ open-reply-read-of-written routing service o app rest b h f small =
     let t : valueOf 4 (drop 24 s) ≡ o .«t_o_api» = ap (nth 10) e in
     let w : getD s 28 0 ≡ length app / 2 = ap (nth 11) e in
     record {
-      read = success-back service fs app rest openAt 24 o routing f refl (omega (arith, reply-length service fs app rest)) w (rw (k, l, m, n, q, r, t));
+      read = success-back service fs app rest openSuccessAt 24 o routing f refl (omega (arith, reply-length service fs app rest)) w (rw (k, l, m, n, q, r, t));
       app-is = part-front s app rest 30 (past-laid s F (app ++ rest) 0 p);
     }
 
@@ -127,11 +127,11 @@ pub record CloseBack (routing : Bool) (service : ℕ) (c : ForwardCloseSuccess) 
       ≡ done (succeeded (headed service success (10 + length app + length rest)) c 14 (length app))
   pub app-is : part (closeReplyBytes service c app ++ rest) 14 (length app) ≡ app
 
-pub close-reply-read-of-written : (routing : Bool) (service : ℕ) (c : ForwardCloseSuccess) (app rest : List ℕ) → service < 256 → AllHold (closeFields c) → AppFits app
+pub close-reply-read-of-written : (routing : Bool) (service : ℕ) (c : ForwardCloseSuccess) (app rest : List ℕ) → service < 256 → AllHold (closeSuccessFields c) → AppFits app
     → 14 + length app + length rest ≤ maxRecord → CloseBack routing service c app rest
 unfolding closeReplyBytes nth worth
 close-reply-read-of-written routing service c app rest b h f small =
-    let fs : List Field = closeFields c in
+    let fs : List Field = closeSuccessFields c in
     let F : List Field = record-of service fs app rest in
     let s : List ℕ = reply-of service fs app rest in
     let p : drop 0 s ≡ laid F ++ (app ++ rest) = here service fs app rest in
@@ -141,7 +141,7 @@ close-reply-read-of-written routing service c app rest b h f small =
     let m : valueOf 4 (drop 8 s) ≡ c .«originator_serial_number» = ap (nth 6) e in
     let w : getD s 12 0 ≡ length app / 2 = ap (nth 7) e in
     record {
-      read = success-back service fs app rest closeAt 8 c routing f refl (omega (arith, reply-length service fs app rest)) w (rw (k, l, m));
+      read = success-back service fs app rest closeSuccessAt 8 c routing f refl (omega (arith, reply-length service fs app rest)) w (rw (k, l, m));
       app-is = part-front s app rest 14 (past-laid s F (app ++ rest) 0 p);
     }
 

@@ -6,8 +6,9 @@ use native.Mathlib.Omega.{arith}
 use lib.ListN.{length}
 use mir.Val.{Fits}
 use mir.Syntax.{w8, w64}
+use Rattle.wire.proofs.Rules.{within-was}
 use Rattle.wire.specs.Refusals.{number}
-use Rattle.wire.specs.Answers.{Answer, done, refused, paperSize, paperCount}
+use Rattle.wire.specs.Answers.{Answer, done, refused, paperSize, paperCount, withinLimit}
 use Rattle.wire.specs.declared.Refusal.{Refusal}
 use Rattle.wire.specs.declared.Wrote.{Wrote}
 use Rattle.wire.specs.declared.Wrote.the-variants.{Size}
@@ -17,8 +18,7 @@ use Rattle.connection.specs.Limits.{maxPath, maxRecord}
 use Rattle.connection.specs.declared.UnconnectedSend.{UnconnectedSend}
 use Rattle.connection_words.specs.Requests.{messageBytes, sendBytes}
 use Rattle.connection_words.proofs.Lengths.{message-length, send-length}
-use Rattle.request_sizes.specs.Sizes.{recordSize}
-use Rattle.request_sizes.proofs.SizeLaws.{record-over, record-is, record-was}
+use Rattle.request_sizes.proofs.SizeLaws.{record-over, record-is}
 use Rattle.route_written.specs.Written.{writtenRoute}
 use Rattle.route_written.proofs.WrittenLaws.{over-stops, over-goes, over-short, Over, over-was}
 use Rattle.request_encode.specs.Over.{overSize}
@@ -27,7 +27,7 @@ use Rattle.request_encode.specs.Over.{overSize}
 module _ (path : List ℕ) (w : Counted) (is : paperCount w ≡ writtenRoute path) (head : ℕ) (small : head ≤ 7) where
   pub size-stops : (rest : ℕ) (e : Refusal) → w ≡ Refused e → refused (number e) ≡ overSize path head rest
   unfolding overSize
-  size-stops rest e h = over-stops path w is (λ k. recordSize (head + k + rest)) e h
+  size-stops rest e h = over-stops path w is (λ k. withinLimit maxRecord (head + k + rest)) e h
 
   module _ (n : ℕ) (h : w ≡ Count n) where
     short : n ≤ maxPath
@@ -35,11 +35,11 @@ module _ (path : List ℕ) (w : Counted) (is : paperCount w ≡ writtenRoute pat
 
     pub size-long : (rest : ℕ) → maxRecord - (head + n) < rest → refused 3 ≡ overSize path head rest
     unfolding overSize
-    size-long rest g = over-goes path w is n h (λ k. recordSize (head + k + rest)) (record-over (head + n) rest (omega (arith, short)) g)
+    size-long rest g = over-goes path w is n h (λ k. withinLimit maxRecord (head + k + rest)) (record-over (head + n) rest (omega (arith, short)) g)
 
     pub size-is : (rest : ℕ) → rest ≤ maxRecord - (head + n) → done (head + n + rest) ≡ overSize path head rest
     unfolding overSize
-    size-is rest g = over-goes path w is n h (λ k. recordSize (head + k + rest)) (record-is (head + n) rest (omega (arith, short)) g)
+    size-is rest g = over-goes path w is n h (λ k. withinLimit maxRecord (head + k + rest)) (record-is (head + n) rest (omega (arith, short)) g)
 
     pub size-head : head + n ≤ maxRecord
     size-head = omega (arith, short)
@@ -64,18 +64,18 @@ pub ruleset put-laws = (over-words, over-behind)
 
 -- ---- backwards: a size that was answered
 module _ (path : List ℕ) (head rest : ℕ) (r : Wrote) (is : paperSize r ≡ overSize path head rest) (size : ℕ) (h : r ≡ Size size) where
-  was : Over path (λ k. recordSize (head + k + rest)) size
+  was : Over path (λ k. withinLimit maxRecord (head + k + rest)) size
   unfolding overSize
-  was = over-was path (λ k. recordSize (head + k + rest)) size (sym is ∙ ap paperSize h)
+  was = over-was path (λ k. withinLimit maxRecord (head + k + rest)) size (sym is ∙ ap paperSize h)
 
   pub over-path : length path ≤ maxPath
   over-path = was .short
 
   pub over-rest : rest ≤ maxRecord
-  over-rest = omega (arith, record-was (head + length path + rest) size (was .then) .0)
+  over-rest = omega (arith, within-was maxRecord (head + length path + rest) size (was .then) .0)
 
   over-sum : head + length path + rest ≡ size
-  over-sum = record-was (head + length path + rest) size (was .then) .1
+  over-sum = within-was maxRecord (head + length path + rest) size (was .then) .1
 
 module _ (path : List ℕ) (r : Wrote) (size : ℕ) (h : r ≡ Size size) where
   pub message-over-sized : (service : ℕ) (content : List ℕ) → paperSize r ≡ overSize path 2 (length content) → size ≡ length (messageBytes service path content)

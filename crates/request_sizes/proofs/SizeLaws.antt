@@ -7,11 +7,11 @@ use lib.ListN.{length}
 use mir.Val.{Fits}
 use mir.Syntax.{w64}
 use Rattle.wire.specs.Refusals.{number}
-use Rattle.wire.specs.Answers.{done, refused, paperSize, over}
+use Rattle.wire.specs.Answers.{done, refused, paperSize, over, withinLimit}
 use Rattle.wire.specs.declared.Refusal.{Refusal}
 use Rattle.wire.specs.declared.Wrote.{Wrote}
 use Rattle.wire.specs.declared.Wrote.the-variants.{Size, Refused}
-use Rattle.wire.proofs.Rules.{rules, all-were}
+use Rattle.wire.proofs.Rules.{rules, all-were, within-was}
 use Rattle.connection_words.proofs.Lengths.{message-length, send-length}
 use Rattle.epath_sizes.specs.Segments.{encode}
 use Rattle.epath_sizes.specs.Lists.{segsOf}
@@ -22,16 +22,14 @@ use Rattle.connection.specs.declared.UnconnectedSend.{UnconnectedSend}
 use Rattle.connection_words.specs.Requests.{messageBytes, sendBytes}
 use Rattle.route.specs.Routes.{routeSize, Ready}
 use Rattle.route.proofs.RouteLaws.{from-stops, from-goes, from-short, Left, left}
-use Rattle.request_sizes.specs.Sizes.{recordSize, messageSize, sendSize}
+use Rattle.request_sizes.specs.Sizes.{messageSize, sendSize}
 
 -- ---- a record's size
 module _ (head n : ℕ) (small : head ≤ 1000) where
-  pub record-over : maxRecord - head < n → refused 3 ≡ recordSize (head + n)
-  unfolding recordSize
+  pub record-over : maxRecord - head < n → refused 3 ≡ withinLimit maxRecord (head + n)
   record-over h = let g : maxRecord < head + n = omega arith in search rules
 
-  pub record-is : n ≤ maxRecord - head → done (head + n) ≡ recordSize (head + n)
-  unfolding recordSize
+  pub record-is : n ≤ maxRecord - head → done (head + n) ≡ withinLimit maxRecord (head + n)
   record-is h = let g : head + n ≤ maxRecord = omega arith in search rules
 
   pub record-head : head ≤ maxRecord
@@ -41,14 +39,6 @@ module _ (head n : ℕ) (small : head ≤ 1000) where
   record-fits h = record { fits = omega arith }
 
 pub ruleset record-laws = (record-over, record-is, record-head, record-fits)
-
-pub record-was : (n m : ℕ) → recordSize n ≡ done m → (n ≤ maxRecord) × (n ≡ m)
-unfolding recordSize
-record-was n m h =
-    let k = all-were (over n maxRecord 3 ∷ []) (done n) m h in
-    let e : done n ≡ done m = k .1 in
-    let q : n ≡ m = cc in
-    (k .0 .0, q)
 
 -- ---- forwards: what the code's ends answer
 module _ (pool : List ℕ) (p : Path) (r : Wrote) (is : paperSize r ≡ routeSize pool p) where
@@ -65,9 +55,9 @@ module _ (pool : List ℕ) (p : Path) (r : Wrote) (is : paperSize r ≡ routeSiz
     short : n ≤ maxPath
     short = from-short pool p r n is h
 
-    pub message-is : (d : ℕ) (q : Wrote) → paperSize q ≡ recordSize (2 + n + d) → paperSize q ≡ messageSize pool p d
+    pub message-is : (d : ℕ) (q : Wrote) → paperSize q ≡ withinLimit maxRecord (2 + n + d) → paperSize q ≡ messageSize pool p d
     unfolding messageSize
-    message-is d q e = from-goes pool p r is (λ k. recordSize (2 + k + d)) n h e
+    message-is d q e = from-goes pool p r is (λ k. withinLimit maxRecord (2 + k + d)) n h e
 
     pub message-head : 2 + n ≤ 1000
     message-head = omega (arith, short)
@@ -75,9 +65,9 @@ module _ (pool : List ℕ) (p : Path) (r : Wrote) (is : paperSize r ≡ routeSiz
     pub message-fits : Fits w64 (2 + n)
     message-fits = record { fits = omega (arith, short) }
 
-    pub send-is : (m : ℕ) (q : Wrote) → paperSize q ≡ recordSize (6 + n + m % 2 + m) → paperSize q ≡ sendSize pool p m
+    pub send-is : (m : ℕ) (q : Wrote) → paperSize q ≡ withinLimit maxRecord (6 + n + m % 2 + m) → paperSize q ≡ sendSize pool p m
     unfolding sendSize
-    send-is m q e = from-goes pool p r is (λ k. recordSize (6 + k + m % 2 + m)) n h e
+    send-is m q e = from-goes pool p r is (λ k. withinLimit maxRecord (6 + k + m % 2 + m)) n h e
 
     pub send-head : (m : ℕ) → 6 + n + m % 2 ≤ 1000
     send-head m = omega (arith, short)
@@ -97,20 +87,20 @@ module _ (pool : List ℕ) (p : Path) (r : Wrote) (size : ℕ) (h : r ≡ Size s
   pub message-ready : (d : ℕ) (out : List ℕ) → paperSize r ≡ messageSize pool p d → size ≤ length out → Ready pool p 2 out
   unfolding messageSize
   message-ready d out is g =
-      let w : Left pool p (λ k. recordSize (2 + k + d)) size = left pool p (λ k. recordSize (2 + k + d)) size (sym is ∙ ap paperSize h) in
-      record { size = w .n; is = w .is; short = w .short; room = omega (arith, record-was (2 + w .n + d) size (w .then) .1) }
+      let w : Left pool p (λ k. withinLimit maxRecord (2 + k + d)) size = left pool p (λ k. withinLimit maxRecord (2 + k + d)) size (sym is ∙ ap paperSize h) in
+      record { size = w .n; is = w .is; short = w .short; room = omega (arith, within-was maxRecord (2 + w .n + d) size (w .then) .1) }
 
   module _ (m : ℕ) (is : paperSize r ≡ sendSize pool p m) where
-    sent : Left pool p (λ k. recordSize (6 + k + m % 2 + m)) size
+    sent : Left pool p (λ k. withinLimit maxRecord (6 + k + m % 2 + m)) size
     unfolding sendSize
-    sent = left pool p (λ k. recordSize (6 + k + m % 2 + m)) size (sym is ∙ ap paperSize h)
+    sent = left pool p (λ k. withinLimit maxRecord (6 + k + m % 2 + m)) size (sym is ∙ ap paperSize h)
 
     pub send-small : m ≤ maxRecord
-    send-small = omega (arith, record-was (6 + sent .n + m % 2 + m) size (sent .then) .0)
+    send-small = omega (arith, within-was maxRecord (6 + sent .n + m % 2 + m) size (sent .then) .0)
 
     pub send-ready : (out : List ℕ) → size ≤ length out → Ready pool p (6 + m % 2 + m) out
     send-ready out g =
-        record { size = sent .n; is = sent .is; short = sent .short; room = omega (arith, record-was (6 + sent .n + m % 2 + m) size (sent .then) .1) }
+        record { size = sent .n; is = sent .is; short = sent .short; room = omega (arith, within-was maxRecord (6 + sent .n + m % 2 + m) size (sent .then) .1) }
 
 pub ruleset ready-laws = (message-ready, send-small, send-ready)
 
@@ -123,10 +113,10 @@ module _ (pool : List ℕ) (p : Path) (r : Wrote) (size : ℕ) (h : r ≡ Size s
   pub message-sized : (service : ℕ) (content : List ℕ) → paperSize r ≡ messageSize pool p (length content) → size ≡ length (messageBytes service path content)
   unfolding messageSize
   message-sized service content is =
-      let w : Left pool p (λ k. recordSize (2 + k + length content)) size = left pool p (λ k. recordSize (2 + k + length content)) size (sym is ∙ ap paperSize h) in
+      let w : Left pool p (λ k. withinLimit maxRecord (2 + k + length content)) size = left pool p (λ k. withinLimit maxRecord (2 + k + length content)) size (sym is ∙ ap paperSize h) in
       omega (
         arith,
-        record-was (2 + w .n + length content) size (w .then) .1,
+        within-was maxRecord (2 + w .n + length content) size (w .then) .1,
         path-sized pool p (w .n) (w .is) .size,
         message-length service path content,
       )
@@ -136,7 +126,7 @@ module _ (pool : List ℕ) (p : Path) (r : Wrote) (size : ℕ) (h : r ≡ Size s
       let w = sent pool p r size h (length message) is in
       omega (
         arith,
-        record-was (6 + w .n + length message % 2 + length message) size (w .then) .1,
+        within-was maxRecord (6 + w .n + length message % 2 + length message) size (w .then) .1,
         path-sized pool p (w .n) (w .is) .size,
         send-length u message path,
       )

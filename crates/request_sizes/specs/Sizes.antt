@@ -2,19 +2,15 @@
 -- Assumes nothing: these are definitions.
 use Prim.Native.Nat.{ℕ, _+_, _%_}
 use mathlib.Core.List.{List, [], _∷_}
-use Rattle.wire.specs.Answers.{Answer, done, over, judged, andThen}
+use Rattle.wire.specs.Answers.{Answer, done, over, judged, andThen, withinLimit}
 use Rattle.epath_sizes.specs.declared.Path.{Path}
 use Rattle.connection.specs.Limits.{maxRecord}
 use Rattle.route.specs.Routes.{routeSize}
 
--- a record of so many bytes
-unfoldable pub recordSize : ℕ → Answer ℕ
-recordSize n = judged (over n maxRecord 3 ∷ []) (done n)
-
 -- with d bytes of data
 unfoldable pub messageSize : List ℕ → Path → ℕ → Answer ℕ
-messageSize pool p d = andThen (routeSize pool p) (λ n. recordSize (2 + n + d))
+messageSize pool p d = andThen (routeSize pool p) (λ n. withinLimit maxRecord (2 + n + d))
 
 -- with a message of m bytes
 unfoldable pub sendSize : List ℕ → Path → ℕ → Answer ℕ
-sendSize pool p m = andThen (routeSize pool p) (λ n. recordSize (6 + n + m % 2 + m))
+sendSize pool p m = andThen (routeSize pool p) (λ n. withinLimit maxRecord (6 + n + m % 2 + m))

@@ -3,13 +3,13 @@ use wire::Refusal;
 use wire::Wrote;
 ghost use mathlib.Core.Path.{_≡_};
 ghost use Prim.Native.Nat.{_+_, _≤_};
-ghost use Rattle.wire.specs.Answers.{paperSize};
-ghost use Rattle.request_sizes.specs.Sizes.{recordSize};
+ghost use Rattle.connection.specs.Limits.{maxRecord};
+ghost use Rattle.wire.specs.Answers.{paperSize, withinLimit};
 
 // The size of a record that has head bytes beside n of a lent part.
 pub(crate) fn record_size(head: usize, n: usize) -> Wrote
     requires { ⌜ head ≤ 1000 ⌝ }
-    ensures { λ r. ⌜ paperSize r ≡ recordSize (head + n) ⌝ }
+    ensures { λ r. ⌜ paperSize r ≡ withinLimit maxRecord (head + n) ⌝ }
 {
     if connection::MAX_RECORD - head < n {
         return Wrote::Refused(Refusal::Limit);

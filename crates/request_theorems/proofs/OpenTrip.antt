@@ -8,7 +8,7 @@ use lib.ListN.{length, getD, drop}
 use Rattle.wire.specs.Numbers.{valueOf, Bytes}
 use Rattle.wire.specs.Parts.{part}
 use Rattle.wire.specs.Answers.{Answer, done, andThen, under, judged}
-use Rattle.wire.specs.Records.{Field, byte, number, laid, widths, AllHold, fieldsAt}
+use Rattle.wire.specs.Records.{Field, byte, num, laid, widths, AllHold, fieldsAt}
 use Rattle.wire.proofs.Numbers.{value-small, bytes-drop}
 use Rattle.wire.proofs.Rules.{all-keep, all-were, then-were, then-done}
 use Rattle.wire.proofs.Records.{fields-back, fields-again, laid-size, past-laid}
@@ -68,7 +68,7 @@ pub record OpenBack (o : OpenOptions) (path s : List ℕ) : Type 0 where
 -- a field's number, by its place in the list of fields
 abbrev numberIn : Field → ℕ
 numberIn (byte v) = v
-numberIn (number k v) = v
+numberIn (num k v) = v
 
 abbrev field : ℕ → List Field → ℕ
 field i fs = numberIn (getD fs i (byte 0))

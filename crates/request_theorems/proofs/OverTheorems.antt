@@ -4,7 +4,7 @@ use mathlib.Core.Path.{_≡_, refl, sym, ap, _∙_}
 use mathlib.Core.List.{List, [], _∷_, map}
 use native.Mathlib.Omega.{arith}
 use lib.ListN.{length}
-use Rattle.wire.specs.Answers.{Answer, done, refused, over, andThen, withRoom, written}
+use Rattle.wire.specs.Answers.{Answer, done, refused, over, andThen, withRoom, written, withinLimit}
 use Rattle.wire.proofs.Rules.{never, all-keep, then-done}
 use Rattle.wire.proofs.Answers.{room-kept}
 use Rattle.epath_sizes.specs.Limits.{maxSegments}
@@ -17,13 +17,13 @@ use Rattle.epath_sizes.proofs.PathLaws.{PathSized, path-sized}
 use Rattle.epath_encode.proofs.Theorems.{answerOf, left-front}
 use Rattle.epath.specs.Paths.{walk, countOf, checkPath, sees, parsePath}
 use Rattle.epath.proofs.Theorems.{AllRanged, write-then-read}
-use Rattle.connection.specs.Limits.{maxPath}
+use Rattle.connection.specs.Limits.{maxPath, maxRecord}
 use Rattle.connection.specs.declared.UnconnectedSend.{UnconnectedSend}
 use Rattle.connection_words.specs.Requests.{messageBytes, sendBytes}
 use Rattle.route.specs.Routes.{routeSize}
 use Rattle.route.proofs.RouteLaws.{RouteSized, route-sized}
 use Rattle.route_written.specs.Written.{writtenRoute}
-use Rattle.request_sizes.specs.Sizes.{recordSize, messageSize, sendSize}
+use Rattle.request_sizes.specs.Sizes.{messageSize, sendSize}
 use Rattle.request_encode.specs.Over.{overSize, messageOverSize, sendOverSize}
 
 -- a list that is sized, whose numbers are such as the code's types hold
@@ -57,14 +57,14 @@ module _ (pool : List ℕ) (p : Path) (n : ℕ) (ranged : AllRanged (slotsOf p))
 
   message-size-same : (d : ℕ) → messageOverSize bytesOf d ≡ messageSize pool p d
   unfolding overSize messageSize
-  message-size-same d = ap (λ (x : Answer ℕ). andThen x (λ k. recordSize (2 + k + d))) (written-list ∙ sym h)
+  message-size-same d = ap (λ (x : Answer ℕ). andThen x (λ k. withinLimit maxRecord (2 + k + d))) (written-list ∙ sym h)
 
   send-size-same : (m : ℕ) → sendOverSize bytesOf m ≡ sendSize pool p m
   unfolding overSize sendSize
   send-size-same m =
-      then-done (writtenRoute bytesOf) (λ k. recordSize (6 + m % 2 + k + m)) n written-list
-      ∙ ap recordSize (omega arith)
-      ∙ sym (then-done (routeSize pool p) (λ k. recordSize (6 + k + m % 2 + m)) n h)
+      then-done (writtenRoute bytesOf) (λ k. withinLimit maxRecord (6 + m % 2 + k + m)) n written-list
+      ∙ ap (withinLimit maxRecord) (omega arith)
+      ∙ sym (then-done (routeSize pool p) (λ k. withinLimit maxRecord (6 + k + m % 2 + m)) n h)
 
   -- so the answer and what is left are the same
   pub message-over-same : (service : ℕ) (content old : List ℕ)

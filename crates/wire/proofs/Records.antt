@@ -7,14 +7,14 @@ use native.Mathlib.Omega.{arith}
 use lib.ListN.{length, getD, take, drop, length-append, length-drop, take-append-drop}
 use lib.Seq.{sets, drop-drop, getD-drop}
 use Rattle.wire.specs.Numbers.{valueOf, Bytes}
-use Rattle.wire.specs.Records.{Field, byte, number, bytesOf, laid, width, widths, Holds, AllHold, fieldAt, fieldsAt}
+use Rattle.wire.specs.Records.{Field, byte, num, bytesOf, laid, width, widths, Holds, AllHold, fieldAt, fieldsAt}
 use Rattle.wire.proofs.Numbers.{value-low, low-value, low-length, bytes-drop, first-one}
 use Rattle.wire.proofs.Stores.{sets-onto, past-part}
 use Rattle.wire.proofs.Folds.{joined-append}
 
 field-length : (f : Field) → length (bytesOf f) ≡ width f
 field-length (byte v) = refl
-field-length (number k v) = low-length k v
+field-length (num k v) = low-length k v
 
 pub laid-length : (fs : List Field) → length (laid fs) ≡ widths fs
 laid-length [] = refl
@@ -33,7 +33,7 @@ field-back : (f : Field) (s rest : List ℕ) (at : ℕ) → Holds f → drop at 
 field-back (byte v) s rest at h e =
     let g : getD s at 0 ≡ v = ap (λ (k : ℕ). getD s k 0) (sym (add-zero at)) ∙ sym (getD-drop at s 0 0) ∙ ap (λ (l : List ℕ). getD l 0 0) e in
     ap byte g
-field-back (number k v) s rest at h e = ap (number k) (ap (valueOf k) e ∙ value-low k v rest h)
+field-back (num k v) s rest at h e = ap (num k) (ap (valueOf k) e ∙ value-low k v rest h)
 
 -- what stands behind a field
 past : (f : Field) (s rest : List ℕ) (at : ℕ) → drop at s ≡ bytesOf f ++ rest → drop (at + width f) s ≡ rest
@@ -51,7 +51,7 @@ field-again : (f : Field) (s : List ℕ) (at : ℕ) → Bytes s → at + width f
 field-again (byte v) s at b h =
     let e : getD (drop at s) 0 0 ≡ getD s at 0 = getD-drop at s 0 0 ∙ ap (λ (k : ℕ). getD s k 0) (add-zero at) in
     sym (first-one (drop at s) (simp length-drop (omega arith)) ∙ rw e)
-field-again (number k v) s at b h = low-value k (drop at s) (bytes-drop s at b) (simp length-drop (omega arith))
+field-again (num k v) s at b h = low-value k (drop at s) (bytes-drop s at b) (simp length-drop (omega arith))
 
 pub fields-again : (fs : List Field) (s : List ℕ) (at : ℕ) → Bytes s → at + widths fs ≤ length s → laid (fieldsAt fs s at) ++ drop (at + widths fs) s ≡ drop at s
 fields-again [] s at b h = ap (λ (k : ℕ). drop k s) (add-zero at)

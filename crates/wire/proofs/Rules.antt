@@ -6,7 +6,7 @@ use mathlib.Core.Bool.{Bool, true, false, not}
 use native.Mathlib.Omega.{arith}
 use lib.Dec.{eqb}
 use borrow.Author.Tests.{ltb-false, lt-ltb, le-ltb, eq-eqb, ne-eqb, eqb-true, not-false}
-use Rattle.wire.specs.Answers.{Answer, done, refused, andThen, Rule, under, over, other, breaks, numberOf, judged, Keeps, KeepsAll}
+use Rattle.wire.specs.Answers.{Answer, done, refused, andThen, Rule, under, over, other, breaks, numberOf, judged, Keeps, KeepsAll, withinLimit}
 
 pub never : {A B : Type 0} {x : A} {k : ℕ} → refused k ≡ done x → B
 never h = absurd (let z : _≡_ {A = ℕ} 0 1 = cc in omega arith)
@@ -78,6 +78,16 @@ all-were (r ∷ rs) y x h = go (breaks r) refl (λ (g : judged rs y ≡ done x).
     go : (t : Bool) → breaks r ≡ t → (judged rs y ≡ done x → KeepsAll rs × (y ≡ done x)) → KeepsAll (r ∷ rs) × (y ≡ done x)
     go true p f = never (sym (bad rs y r p) ∙ h)
     go false p f = let g = f (sym (next rs y r p) ∙ h) in ((kept r p, g .0), g .1)
+
+-- a size within a limit, and one that was
+pub within-is : (most n : ℕ) → n ≤ most → withinLimit most n ≡ done n
+within-is most n h = all-keep (over n most 3 ∷ []) (done n) (h, tt)
+
+pub within-was : (most n size : ℕ) → withinLimit most n ≡ done size → (n ≤ most) × (n ≡ size)
+within-was most n size h =
+    let w = all-were (over n most 3 ∷ []) (done n) size h in
+    let d : done n ≡ done size = w .1 in
+    (w .0 .0, cc)
 
 -- a refusal by the rules does not depend on what they guard
 pub same-refusal : {A B : Type 0} (rs : List Rule) (x : A) (y : Answer B) (k : ℕ) → judged rs (done x) ≡ refused k → judged rs y ≡ refused k

@@ -80,8 +80,23 @@ abbrev pub written : Answer ℕ → List ℕ → List ℕ → List ℕ
 written (done n) bytes old = overlay bytes old
 written (refused k) bytes old = old
 
+-- a size that is at most so much: 3 past it
+abbrev pub withinLimit : ℕ → ℕ → Answer ℕ
+withinLimit most n = judged (over n most 3 ∷ []) (done n)
+
+-- the number of an answer, 0 of a refusal
+abbrev pub orZero : Answer ℕ → ℕ
+orZero (done n) = n
+orZero (refused k) = 0
+
 -- ---- what a function that stores bytes at the front of a list leaves: how many there were, and the list
 
 pub record Put (bytes old : List ℕ) (r : ℕ) (new : List ℕ) : Type 0 where
   pub size : r ≡ length bytes
   pub stored : new ≡ sets old 0 bytes
+
+-- the same of bytes from a place on: where they end, and the list
+
+pub record PutAt (at : ℕ) (bytes old : List ℕ) (r : ℕ) (new : List ℕ) : Type 0 where
+  pub ends : r ≡ at + length bytes
+  pub stored : new ≡ sets old at bytes
