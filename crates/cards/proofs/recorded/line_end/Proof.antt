@@ -1,17 +1,17 @@
--- `edges::show::bytes` is safe and ends: the measure is the turns that are left. Assumes nothing.
+-- `cards::recorded::line_end` is safe and ends: the measure is the turns that are left. Assumes nothing.
 --: use Prim.Native.Nat.{_-_}
 --: Inv-loop = Unit {0}
 --: μ-loop = i-end - i
 use Prim.Native.Nat.{_-_}
-use Rattle.edges.proofs.show.bytes.Statement.{statement}
+use Rattle.cards.proofs.recorded.line_end.Statement.{statement}
 use borrow.Author.Needs.{needs}
-use Rattle.edges.proofs.show.bytes.Tie as tie
+use Rattle.cards.proofs.recorded.line_end.Tie as tie
 
 abbrev Inv-loop : tie.InvT-loop
-Inv-loop s i₀ i-end i = Unit {0}
+Inv-loop s at i₀ i-end i = Unit {0}
 
 abbrev μ-loop : tie.MeasureT-loop
-μ-loop s i₀ i-end i = i-end - i
+μ-loop s at i₀ i-end i = i-end - i
 
 loop-holds : tie.Need-loop-holds Inv-loop μ-loop
 loop-holds c = search needs
@@ -19,8 +19,8 @@ loop-holds c = search needs
 byte-at-requires : tie.Need-byte-at-requires Inv-loop μ-loop
 byte-at-requires c κs = search needs
 
-byte-requires : tie.Need-byte-requires Inv-loop μ-loop
-byte-requires c κs = search needs
+returns : tie.Need-returns Inv-loop μ-loop
+returns c = search needs
 
 add-i : tie.Need-add-i Inv-loop μ-loop
 add-i c = search needs
@@ -31,19 +31,19 @@ loop-less c = search needs
 loop-again : tie.Need-loop-again Inv-loop μ-loop
 loop-again c = search needs
 
-returns : tie.Need-returns Inv-loop μ-loop
-returns c = search needs
+returns-2 : tie.Need-returns-2 Inv-loop μ-loop
+returns-2 c = search needs
 
-pub bytes-spec : {M : Type 1} → statement M
-bytes-spec =
+pub line-end-spec : {M : Type 1} → statement M
+line-end-spec =
     tie.close
     (tie.spec
     Inv-loop
     μ-loop
     loop-holds
     byte-at-requires
-    byte-requires
+    returns
     add-i
     loop-less
     loop-again
-    returns)
+    returns-2)
