@@ -1,4 +1,4 @@
--- `c_paths::read::put_numbers` meets its contract. Assumes nothing.
+-- `c_path_reads::put_numbers` meets its contract. Assumes nothing.
 --: use native.Mathlib.Omega.{arith}
 --: use lib.ListN.{length-set}
 --: slice-write-rows-2 = simp length-set (omega arith)
@@ -6,8 +6,8 @@
 use native.Mathlib.Omega.{arith}
 use lib.ListN.{length-set}
 use borrow.Author.Needs.{needs}
-use Rattle.c_paths.proofs.read.put_numbers.Statement.{statement}
-use Rattle.c_paths.proofs.read.put_numbers.Tie as tie
+use Rattle.c_path_reads.proofs.put_numbers.Statement.{statement}
+use Rattle.c_path_reads.proofs.put_numbers.Tie as tie
 
 slice-write-rows : tie.Need-slice-write-rows
 slice-write-rows c = search needs

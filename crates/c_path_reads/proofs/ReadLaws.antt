@@ -13,7 +13,6 @@ use Rattle.wire.specs.declared.Refusal.{Refusal}
 use Rattle.wire.specs.declared.Counted.{Counted}
 use Rattle.wire.specs.declared.Counted.the-variants.{Count, Refused as NotCounted}
 use Rattle.wire.proofs.Rules.{rules, never}
-use Rattle.wire.proofs.Answers.{room-kept}
 use Rattle.wire.proofs.Stores.{lent-all, length-lent, sets-overlay}
 use Rattle.wire.proofs.Folds.{Storing, storing-first, storing-fits, storing-more}
 use Rattle.epath_sizes.specs.Limits.{maxSegments}
@@ -28,57 +27,57 @@ use Rattle.epath_segment.specs.declared.SegmentRead.the-variants.{Found, Refuse
 use Rattle.epath_segment.specs.Reads.{Front, front, paperFront, readSeg, moved}
 use Rattle.epath.specs.Paths.{before, walk, countOf, listOf, checkPath}
 use Rattle.epath.proofs.Places.{at-found}
+use Rattle.epath.proofs.ShiftLaws.{fits-symbol, fits-port}
 use Rattle.epath.proofs.Walks.{walk-ends, walk-full, walk-stops, walk-goes, Stands}
-use Rattle.c_answers.specs.Codes.{code}
 use Rattle.c_paths.specs.Kinds.{symbolKind, classKind, instanceKind, attributeKind, elementKind, portKind, rowNumbers}
-use Rattle.c_paths.specs.Rows.{rowOf, numbersOf, rowsFor}
-use Rattle.c_paths.specs.Reads.{Here, Read, Judged}
-use Rattle.c_paths.specs.declared.Row.{Row}
+use Rattle.c_paths.specs.Rows.{segmentRow, numbersOf, rowsFor}
+use Rattle.c_paths.specs.declared.SegmentRow.{SegmentRow}
+use Rattle.c_path_reads.specs.Reads.{pathRows, pathRowsAnswer, SegmentHere, RowRead, PathJudged}
 
 -- ---- a segment's row
-abbrev numbered : ℕ → ℕ → Row
+abbrev numbered : ℕ → ℕ → SegmentRow
 numbered k v = record { kind = k; number = v; start = 0; len = 0 }
 
 module _ (x : Segment) (at : ℕ) where
-  pub row-symbol : (y : SymbolSegment) → x ≡ Symbol y → record { kind = symbolKind; number = 0; start = at + y .start; len = y .len } ≡ rowOf (shifted at x)
+  pub row-symbol : (y : SymbolSegment) → x ≡ Symbol y → record { kind = symbolKind; number = 0; start = at + y .start; len = y .len } ≡ segmentRow (shifted at x)
   row-symbol y h = rw h
 
-  pub row-port : (q : PortSegment) → x ≡ Port q → record { kind = portKind; number = q .port; start = at + q .start; len = q .len } ≡ rowOf (shifted at x)
+  pub row-port : (q : PortSegment) → x ≡ Port q → record { kind = portKind; number = q .port; start = at + q .start; len = q .len } ≡ segmentRow (shifted at x)
   row-port q h = rw h
 
-  module _ (v : ℕ) (r : Row) where
-    pub row-class : x ≡ Class v → r ≡ numbered classKind v → r ≡ rowOf (shifted at x)
+  module _ (v : ℕ) (r : SegmentRow) where
+    pub row-class : x ≡ Class v → r ≡ numbered classKind v → r ≡ segmentRow (shifted at x)
     row-class h e = e ∙ rw h
 
-    pub row-instance : x ≡ Instance v → r ≡ numbered instanceKind v → r ≡ rowOf (shifted at x)
+    pub row-instance : x ≡ Instance v → r ≡ numbered instanceKind v → r ≡ segmentRow (shifted at x)
     row-instance h e = e ∙ rw h
 
-    pub row-attribute : x ≡ Attribute v → r ≡ numbered attributeKind v → r ≡ rowOf (shifted at x)
+    pub row-attribute : x ≡ Attribute v → r ≡ numbered attributeKind v → r ≡ segmentRow (shifted at x)
     row-attribute h e = e ∙ rw h
 
-    pub row-element : x ≡ Element v → r ≡ numbered elementKind v → r ≡ rowOf (shifted at x)
+    pub row-element : x ≡ Element v → r ≡ numbered elementKind v → r ≡ segmentRow (shifted at x)
     row-element h e = e ∙ rw h
 
-pub ruleset segment-laws = (row-symbol, row-port, row-class, row-instance, row-attribute, row-element)
+pub ruleset segment-laws = (row-symbol, row-port, row-class, row-instance, row-attribute, row-element, fits-symbol, fits-port)
 
 -- ---- the row of the segment at a place
 module _ (s : List ℕ) (at : ℕ) (r : SegmentRead) (e : paperFront r ≡ readSeg (take (length s - at) (drop at s))) (old : List ℕ) where
-  pub read-never : (k : Refusal) → r ≡ Refused k → Here s at (length old) → Read s at old at old
+  pub read-never : (k : Refusal) → r ≡ Refused k → SegmentHere s at (length old) → RowRead s at old at old
   read-never k h a =
       let p : readSeg (drop at s) ≡ refused (number k) = rw (← lent-all s at) (sym e ∙ ap paperFront h) in
       let q : moved at (readSeg (drop at s)) ≡ refused (number k) = ap (moved at) p in
       never (sym q ∙ a .is)
 
-  pub read-stored : (x : Segment) (n : ℕ) → r ≡ Found x n → ((k : ℕ) → Fits w8 (getD s k 0)) → at ≤ length s → (y : Row) (new : List ℕ) → y ≡ rowOf (shifted at x)
-      → new ≡ sets old 0 (numbersOf y) → Read s at old (at + n) new
+  pub read-stored : (x : Segment) (n : ℕ) → r ≡ Found x n → ((k : ℕ) → Fits w8 (getD s k 0)) → at ≤ length s → (y : SegmentRow) (new : List ℕ) → y ≡ segmentRow (shifted at x)
+      → new ≡ sets old 0 (numbersOf y) → RowRead s at old (at + n) new
   read-stored x n h b l y new p q =
-      record { segment = shifted at x; placed = at-found s at r e x n h (shifted at x) b refl l; stored = q ∙ ap (λ (z : Row). sets old 0 (numbersOf z)) p }
+      record { segment = shifted at x; placed = at-found s at r e x n h (shifted at x) b refl l; stored = q ∙ ap (λ (z : SegmentRow). sets old 0 (numbersOf z)) p }
 
 pub ruleset place-rows = (read-never, read-stored)
 
 -- ---- the walk
 abbrev slotNumbers : Slot → List ℕ
-slotNumbers x = numbersOf (rowOf (x .segment))
+slotNumbers x = numbersOf (segmentRow (x .segment))
 
 rows-length : (l : List Slot) → length (rowsFor l) ≡ rowNumbers * length l
 rows-length [] = refl
@@ -130,7 +129,7 @@ module _ (s : List ℕ) (at i : ℕ) (list : List Slot) (h : at < length s) wher
   turn-of (suc left) c e = turn-at left c e (moved at (readSeg (drop at s))) refl
 
 module _ (s : List ℕ) where
-  pub reading-first : (rows : List ℕ) → Judged s (length rows) → Reading s rows rows 0 0
+  pub reading-first : (rows : List ℕ) → PathJudged s (length rows) → Reading s rows rows 0 0
   reading-first rows j =
       record {
         stands = record { few = omega arith; there = omega arith; near = omega arith };
@@ -150,7 +149,7 @@ module _ (s : List ℕ) where
     pub reading-same : length rows ≡ length old
     reading-same = w .stores .same
 
-    pub reading-ends : length s ≤ at → rows ≡ sets old 0 (rowsFor (listOf (walk maxSegments s 0)))
+    pub reading-ends : length s ≤ at → rows ≡ sets old 0 (pathRows s)
     reading-ends h =
         let e : done [] ≡ done (drop i (w .list)) = sym (walk-ends s at (maxSegments - i) h) ∙ w .rest in
         let f : [] ≡ drop i (w .list) = cc in
@@ -168,7 +167,7 @@ module _ (s : List ℕ) where
       pub reading-less : maxSegments - (i + 1) < maxSegments - i
       reading-less = omega (arith, turn .few)
 
-      pub reading-asks : Here s at (length (take (length rows - rowNumbers * i) (drop (rowNumbers * i) rows)))
+      pub reading-asks : SegmentHere s at (length (take (length rows - rowNumbers * i) (drop (rowNumbers * i) rows)))
       reading-asks =
           record {
             there = w .stands .there;
@@ -178,7 +177,7 @@ module _ (s : List ℕ) where
             fits = rw (length-lent rows (rowNumbers * i)) (omega (arith, room));
           }
 
-      pub reading-more : (r : ℕ) (new : List ℕ) → Read s at (take (length rows - rowNumbers * i) (drop (rowNumbers * i) rows)) r new
+      pub reading-more : (r : ℕ) (new : List ℕ) → RowRead s at (take (length rows - rowNumbers * i) (drop (rowNumbers * i) rows)) r new
           → Reading s old (take (rowNumbers * i) rows ++ (new ++ drop (length rows - rowNumbers * i) (drop (rowNumbers * i) rows))) r (i + 1)
       reading-more r new d =
           let g : done (front (d .segment) r) ≡ done (front (turn .segment) (turn .next)) = d .placed .is ∙ turn .is in
@@ -194,7 +193,7 @@ module _ (s : List ℕ) where
             stores =
                 subst (λ (p : ℕ). Storing slotNumbers (w .list) old after p (i + 1)) k
                 (storing-more slotNumbers (w .list) (w .stores) (turn .here)
-                (record { size = refl; stored = d .stored ∙ ap (λ (y : Segment). sets (take (length rows - rowNumbers * i) (drop (rowNumbers * i) rows)) 0 (numbersOf (rowOf y))) x }));
+                (record { size = refl; stored = d .stored ∙ ap (λ (y : Segment). sets (take (length rows - rowNumbers * i) (drop (rowNumbers * i) rows)) 0 (numbersOf (segmentRow y))) x }));
           }
 
 pub ruleset reading-laws = (reading-first, reading-small, reading-at, reading-same, reading-ends, reading-less, reading-asks, reading-more)
@@ -209,48 +208,41 @@ listed : (w : Answer (List Slot)) (n : ℕ) → countOf w ≡ done n → Listed 
 listed (done l) n h = record { list = l; is = refl; size = cc }
 listed (refused k) n h = never h
 
-module _ (s old : List ℕ) (c : Counted) (is : paperCount c ≡ checkPath s) where
-  pub path-refused : (e : Refusal) (r : ℕ) → c ≡ NotCounted e → r ≡ code (refused (number e)) → r ≡ code (withRoom (checkPath s) (length old / rowNumbers))
-  path-refused e r h f = f ∙ ap (λ (x : Answer ℕ). code (withRoom x (length old / rowNumbers))) (sym (ap paperCount h) ∙ is)
+module _ (s old : List ℕ) where
+  left : {y : Answer ℕ} {new : List ℕ} → y ≡ pathRowsAnswer s (length old) → new ≡ written y (pathRows s) old → new ≡ written (pathRowsAnswer s (length old)) (pathRows s) old
+  left h e = e ∙ ap (λ (x : Answer ℕ). written x (pathRows s) old) h
 
-  pub path-kept : (e : Refusal) → c ≡ NotCounted e → old ≡ written (withRoom (checkPath s) (length old / rowNumbers)) (rowsFor (listOf (walk maxSegments s 0))) old
-  path-kept e h = ap (λ (x : Answer ℕ). written (withRoom x (length old / rowNumbers)) (rowsFor (listOf (walk maxSegments s 0))) old) (sym (ap paperCount h) ∙ is)
+  module _ (c : Counted) (is : paperCount c ≡ checkPath s) where
+    counts : (y : Answer ℕ) → paperCount c ≡ y → withRoom y (length old / rowNumbers) ≡ pathRowsAnswer s (length old)
+    counts y h = ap (λ (x : Answer ℕ). withRoom x (length old / rowNumbers)) (sym h ∙ is)
 
-  module _ (n : ℕ) (h : c ≡ Count n) where
-    counts : done n ≡ checkPath s
-    counts = sym (ap paperCount h) ∙ is
+    pub path-refused : (e : Refusal) → c ≡ NotCounted e → refused (number e) ≡ pathRowsAnswer s (length old)
+    path-refused e h = counts (refused (number e)) (ap paperCount h)
 
-    full : length old / rowNumbers < n → refused 2 ≡ withRoom (checkPath s) (length old / rowNumbers)
-    full l =
-        let z : refused 2 ≡ withRoom (done n) (length old / rowNumbers) = search rules in
-        z ∙ ap (λ (x : Answer ℕ). withRoom x (length old / rowNumbers)) counts
+    pub path-kept : (e : Refusal) → c ≡ NotCounted e → old ≡ written (pathRowsAnswer s (length old)) (pathRows s) old
+    path-kept e h = left (path-refused e h) refl
 
-    pub path-full : (r : ℕ) → length old / rowNumbers < n → r ≡ code (refused 2) → r ≡ code (withRoom (checkPath s) (length old / rowNumbers))
-    path-full r l f = f ∙ ap code (full l)
+    module _ (n : ℕ) (h : c ≡ Count n) where
+      pub path-full : length old / rowNumbers < n → refused 2 ≡ pathRowsAnswer s (length old)
+      path-full l = let z : refused 2 ≡ withRoom (done n) (length old / rowNumbers) = search rules in z ∙ counts (done n) (ap paperCount h)
 
-    pub path-full-kept : length old / rowNumbers < n → old ≡ written (withRoom (checkPath s) (length old / rowNumbers)) (rowsFor (listOf (walk maxSegments s 0))) old
-    path-full-kept l = ap (λ (x : Answer ℕ). written x (rowsFor (listOf (walk maxSegments s 0))) old) (full l)
+      pub path-full-kept : length old / rowNumbers < n → old ≡ written (pathRowsAnswer s (length old)) (pathRows s) old
+      path-full-kept l = left (path-full l) refl
 
-    found : Listed (walk maxSegments s 0) n
-    unfolding checkPath
-    found = listed (walk maxSegments s 0) n (sym counts)
+      found : Listed (walk maxSegments s 0) n
+      unfolding checkPath
+      found = listed (walk maxSegments s 0) n (sym is ∙ ap paperCount h)
 
-    module _ (l : n ≤ length old / rowNumbers) where
-      fits : withRoom (checkPath s) (length old / rowNumbers) ≡ done n
-      fits = room-kept (checkPath s) (length old / rowNumbers) n (sym counts) l
+      module _ (l : n ≤ length old / rowNumbers) where
+        pub path-judged : PathJudged s (length old)
+        path-judged = record { list = found .list; is = found .is; fits = omega (arith, found .size) }
 
-      pub path-judged : Judged s (length old)
-      path-judged = record { list = found .list; is = found .is; fits = omega (arith, found .size) }
+        pub path-count : done n ≡ pathRowsAnswer s (length old)
+        path-count = let z : done n ≡ withRoom (done n) (length old / rowNumbers) = search rules in z ∙ counts (done n) (ap paperCount h)
 
-      pub path-count : n ≡ code (withRoom (checkPath s) (length old / rowNumbers))
-      path-count = ap code (sym fits)
-
-      pub path-stored : (new : List ℕ) → new ≡ sets old 0 (rowsFor (listOf (walk maxSegments s 0)))
-          → new ≡ written (withRoom (checkPath s) (length old / rowNumbers)) (rowsFor (listOf (walk maxSegments s 0))) old
-      path-stored new f =
-          let k : listOf (walk maxSegments s 0) ≡ found .list = ap listOf (found .is) in
-          f
-          ∙ sets-overlay old (rowsFor (listOf (walk maxSegments s 0))) (omega (arith, rows-length (listOf (walk maxSegments s 0)), ap (length {A = Slot}) k, found .size))
-          ∙ ap (λ (x : Answer ℕ). written x (rowsFor (listOf (walk maxSegments s 0))) old) (sym fits)
+        pub path-stored : (new : List ℕ) → new ≡ sets old 0 (pathRows s) → new ≡ written (pathRowsAnswer s (length old)) (pathRows s) old
+        path-stored new f =
+            let k : length (pathRows s) ≡ rowNumbers * n = rows-length (listOf (walk maxSegments s 0)) ∙ ap (λ (m : ℕ). rowNumbers * m) (ap (λ (w : Answer (List Slot)). length (listOf w)) (found .is) ∙ found .size) in
+            left path-count (f ∙ sets-overlay old (pathRows s) (omega (arith, k)))
 
 pub ruleset path-laws = (path-refused, path-kept, path-full, path-full-kept, path-judged, path-count, path-stored)

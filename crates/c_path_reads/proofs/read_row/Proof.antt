@@ -1,12 +1,13 @@
--- `c_paths::read::read_row` meets its contract. Assumes nothing.
+-- `c_path_reads::read_row` meets its contract. Assumes nothing.
 --: use Rattle.epath.proofs.Places.{place-laws}
---: use Rattle.c_paths.proofs.ReadLaws.{place-rows}
+--: use Rattle.c_path_reads.proofs.ReadLaws.{place-rows}
+--: returns = search (place-rows, needs) fits 5000
 --: * = search (place-rows, place-laws, needs, {known}) fits 5000
 use Rattle.epath.proofs.Places.{place-laws}
-use Rattle.c_paths.proofs.ReadLaws.{place-rows}
+use Rattle.c_path_reads.proofs.ReadLaws.{place-rows}
 use borrow.Author.Needs.{needs}
-use Rattle.c_paths.proofs.read.read_row.Statement.{statement}
-use Rattle.c_paths.proofs.read.read_row.Tie as tie
+use Rattle.c_path_reads.proofs.read_row.Statement.{statement}
+use Rattle.c_path_reads.proofs.read_row.Tie as tie
 
 sub-read-segment : tie.Need-sub-read-segment
 sub-read-segment c = search needs
@@ -36,7 +37,7 @@ add-result : tie.Need-add-result
 add-result c = search (place-rows, place-laws, needs, c .before .before .before .before .before .before .before .before .before .before .before .shared-slice-known .given) fits 5000
 
 returns : tie.Need-returns
-returns c = search (place-rows, place-laws, needs, c .before .before .before .before .before .shared-slice-known .given) fits 5000
+returns c = search (place-rows, needs) fits 5000
 
 same-length : tie.Need-same-length
 same-length c = search needs

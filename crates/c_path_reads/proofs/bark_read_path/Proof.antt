@@ -1,16 +1,18 @@
--- `c_paths::bark_read_path` meets its contract. Assumes nothing.
---: use Rattle.c_paths.proofs.ReadLaws.{path-laws}
---: * = search (path-laws, needs) fits 5000
-use Rattle.c_paths.proofs.ReadLaws.{path-laws}
+-- `c_path_reads::bark_read_path` meets its contract. Assumes nothing.
+--: use Rattle.c_answers.proofs.Laws.{told-laws}
+--: use Rattle.c_path_reads.proofs.ReadLaws.{path-laws}
+--: * = search (told-laws, path-laws, needs) fits 5000
+use Rattle.c_answers.proofs.Laws.{told-laws}
+use Rattle.c_path_reads.proofs.ReadLaws.{path-laws}
 use borrow.Author.Needs.{needs}
-use Rattle.c_paths.proofs.bark_read_path.Statement.{statement}
-use Rattle.c_paths.proofs.bark_read_path.Tie as tie
+use Rattle.c_path_reads.proofs.bark_read_path.Statement.{statement}
+use Rattle.c_path_reads.proofs.bark_read_path.Tie as tie
 
 check-path-requires : tie.Need-check-path-requires
 check-path-requires c κs = search needs
 
-enum-known-k : tie.Need-enum-known-k
-enum-known-k c = search needs
+enum-known-e : tie.Need-enum-known-e
+enum-known-e c = search needs
 
 refusal-answer-requires : tie.Need-refusal-answer-requires
 refusal-answer-requires c κs = search needs
@@ -22,26 +24,26 @@ refusal-answer-requires-2 : tie.Need-refusal-answer-requires-2
 refusal-answer-requires-2 c κs = search needs
 
 returns : tie.Need-returns
-returns c = search (path-laws, needs) fits 5000
+returns c = search (told-laws, path-laws, needs) fits 5000
 
 read-rows-requires : tie.Need-read-rows-requires
-read-rows-requires c κs = search (path-laws, needs) fits 5000
+read-rows-requires c κs = search (told-laws, path-laws, needs) fits 5000
 
 returns-2 : tie.Need-returns-2
-returns-2 c = search (path-laws, needs) fits 5000
+returns-2 c = search (told-laws, path-laws, needs) fits 5000
 
 same-length : tie.Need-same-length
 same-length c = search needs
 
 returns-3 : tie.Need-returns-3
-returns-3 c = search (path-laws, needs) fits 5000
+returns-3 c = search (told-laws, path-laws, needs) fits 5000
 
 pub bark-read-path-spec : {M : Type 1} → statement M
 bark-read-path-spec =
     tie.close
     (tie.spec
     check-path-requires
-    enum-known-k
+    enum-known-e
     refusal-answer-requires
     enum-known-count
     refusal-answer-requires-2

@@ -1,12 +1,10 @@
--- `c_paths::read::row_of` meets its contract. Assumes nothing.
---: use Rattle.epath.proofs.ShiftLaws.{fits-symbol, fits-port}
---: use Rattle.c_paths.proofs.ReadLaws.{segment-laws}
---: * = search (segment-laws, fits-symbol, fits-port, needs) fits 5000
-use Rattle.epath.proofs.ShiftLaws.{fits-symbol, fits-port}
-use Rattle.c_paths.proofs.ReadLaws.{segment-laws}
+-- `c_path_reads::row_of` meets its contract. Assumes nothing.
+--: use Rattle.c_path_reads.proofs.ReadLaws.{segment-laws}
+--: * = search (segment-laws, needs) fits 5000
+use Rattle.c_path_reads.proofs.ReadLaws.{segment-laws}
 use borrow.Author.Needs.{needs}
-use Rattle.c_paths.proofs.read.row_of.Statement.{statement}
-use Rattle.c_paths.proofs.read.row_of.Tie as tie
+use Rattle.c_path_reads.proofs.row_of.Statement.{statement}
+use Rattle.c_path_reads.proofs.row_of.Tie as tie
 
 enum-known-x : tie.Need-enum-known-x
 enum-known-x c = search needs
@@ -15,7 +13,7 @@ cast-t10 : tie.Need-cast-t10
 cast-t10 c = search needs
 
 add-t11 : tie.Need-add-t11
-add-t11 c = search (segment-laws, fits-symbol, fits-port, needs) fits 5000
+add-t11 c = search (segment-laws, needs) fits 5000
 
 enum-known-x-2 : tie.Need-enum-known-x-2
 enum-known-x-2 c = search needs
@@ -60,25 +58,25 @@ cast-t16 : tie.Need-cast-t16
 cast-t16 c = search needs
 
 add-t17 : tie.Need-add-t17
-add-t17 c = search (segment-laws, fits-symbol, fits-port, needs) fits 5000
+add-t17 c = search (segment-laws, needs) fits 5000
 
 returns : tie.Need-returns
-returns c = search (segment-laws, fits-symbol, fits-port, needs) fits 5000
+returns c = search (segment-laws, needs) fits 5000
 
 returns-2 : tie.Need-returns-2
-returns-2 c = search (segment-laws, fits-symbol, fits-port, needs) fits 5000
+returns-2 c = search (segment-laws, needs) fits 5000
 
 returns-3 : tie.Need-returns-3
-returns-3 c = search (segment-laws, fits-symbol, fits-port, needs) fits 5000
+returns-3 c = search (segment-laws, needs) fits 5000
 
 returns-4 : tie.Need-returns-4
-returns-4 c = search (segment-laws, fits-symbol, fits-port, needs) fits 5000
+returns-4 c = search (segment-laws, needs) fits 5000
 
 returns-5 : tie.Need-returns-5
-returns-5 c = search (segment-laws, fits-symbol, fits-port, needs) fits 5000
+returns-5 c = search (segment-laws, needs) fits 5000
 
 returns-6 : tie.Need-returns-6
-returns-6 c = search (segment-laws, fits-symbol, fits-port, needs) fits 5000
+returns-6 c = search (segment-laws, needs) fits 5000
 
 pub row-of-spec : {M : Type 1} → statement M
 row-of-spec =

@@ -1,16 +1,16 @@
--- `c_paths::read::read_rows` meets its contract. Assumes nothing.
+-- `c_path_reads::read_rows` meets its contract. Assumes nothing.
 --: use Prim.Native.Nat.{_-_}
 --: use Rattle.epath_sizes.specs.Limits.{maxSegments}
---: use Rattle.c_paths.proofs.ReadLaws.{Reading, reading-laws}
+--: use Rattle.c_path_reads.proofs.ReadLaws.{Reading, reading-laws}
 --: Inv-loop = Reading path rows₀ rows at i
 --: μ-loop = maxSegments - i
 --: * = search (reading-laws, needs) fits 5000
 use Prim.Native.Nat.{_-_}
 use Rattle.epath_sizes.specs.Limits.{maxSegments}
-use Rattle.c_paths.proofs.ReadLaws.{Reading, reading-laws}
-use Rattle.c_paths.proofs.read.read_rows.Statement.{statement}
+use Rattle.c_path_reads.proofs.ReadLaws.{Reading, reading-laws}
+use Rattle.c_path_reads.proofs.read_rows.Statement.{statement}
 use borrow.Author.Needs.{needs}
-use Rattle.c_paths.proofs.read.read_rows.Tie as tie
+use Rattle.c_path_reads.proofs.read_rows.Tie as tie
 
 abbrev Inv-loop : tie.InvT-loop
 Inv-loop path rows₀ at₀ i₀ rows at i = Reading path rows₀ rows at i
