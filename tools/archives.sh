@@ -5,19 +5,30 @@
 # sh tools/archives.sh, from anywhere. Needs rt and ar. rt writes an archive of the functions of one crate; here those of several become one.
 set -eu
 cd "$(dirname "$0")/.."
-parts='c_paths c_requests c_forwards c_forward_words c_replies c_forward_replies c_reply_writes c_bodies c_body_replies c_reply_walk c_nested'
+path='c_paths c_path_reads'
+parts="$path c_requests c_forwards c_forward_words c_replies c_forward_replies c_reply_writes c_bodies c_body_replies c_reply_walk c_nested"
 lib=target/staticlib
 log=$(mktemp)
 trap 'rm -f "$log"' EXIT
 for part in $parts; do
     rt staticlib "$part" >"$log" 2>&1 || { cat "$log" >&2; exit 1; }
 done
-cp "$lib/libc_paths.a" "$lib/libbarkcushion_path.a"
+
+# one archive of the objects of these crates: archive NAME CRATE..
+archive() {
+    to=$lib/$1
+    shift
+    {
+        echo "create $to"
+        for part; do echo "addlib $lib/lib$part.a"; done
+        echo save
+        echo end
+    } | ar -M
+    ranlib "$to"
+    ls -l "$to"
+}
+# shellcheck disable=SC2086
 {
-    echo "create $lib/libbarkcushion.a"
-    for part in $parts; do echo "addlib $lib/lib$part.a"; done
-    echo save
-    echo end
-} | ar -M
-ranlib "$lib/libbarkcushion.a" "$lib/libbarkcushion_path.a"
-ls -l "$lib/libbarkcushion.a" "$lib/libbarkcushion_path.a"
+    archive libbarkcushion.a $parts
+    archive libbarkcushion_path.a $path
+}

@@ -118,9 +118,10 @@ use Rattle.route_written.proofs.written_record
 use Rattle.route_written.proofs.Exact as RouteWritten
 use Rattle.c_paths.proofs.bark_path_size
 use Rattle.c_paths.proofs.bark_write_path
-use Rattle.c_paths.proofs.bark_check_path
-use Rattle.c_paths.proofs.bark_read_path
 use Rattle.c_paths.proofs.Exact as CPaths
+use Rattle.c_path_reads.proofs.bark_check_path
+use Rattle.c_path_reads.proofs.bark_read_path
+use Rattle.c_path_reads.proofs.Exact as CPathReads
 use Rattle.c_requests.proofs.bark_write_message
 use Rattle.c_requests.proofs.bark_read_message
 use Rattle.c_requests.proofs.bark_write_unconnected_send
@@ -282,6 +283,7 @@ pub record Claims : Type 2 where
   -- c_paths
   pub bark-path-size : Exact bark_path_size.ended (λ _. bark_path_size.clauses)
   pub bark-write-path : Exact bark_write_path.ended (λ _. bark_write_path.clauses)
+  -- c_path_reads
   pub bark-check-path : Exact bark_check_path.ended (λ _. bark_check_path.clauses)
   pub bark-read-path : Exact bark_read_path.ended (λ _. bark_read_path.clauses)
   -- c_requests
@@ -410,8 +412,8 @@ claims =
       written-record = RouteWritten.written-record-exact;
       bark-path-size = CPaths.bark-path-size-exact;
       bark-write-path = CPaths.bark-write-path-exact;
-      bark-check-path = CPaths.bark-check-path-exact;
-      bark-read-path = CPaths.bark-read-path-exact;
+      bark-check-path = CPathReads.bark-check-path-exact;
+      bark-read-path = CPathReads.bark-read-path-exact;
       bark-write-message = CRequests.bark-write-message-exact;
       bark-read-message = CRequests.bark-read-message-exact;
       bark-write-unconnected-send = CRequests.bark-write-unconnected-send-exact;
