@@ -123,9 +123,10 @@ use Rattle.c_requests.proofs.bark_read_unconnected_send
 use Rattle.c_requests.proofs.Exact as CRequests
 use Rattle.c_forward_words.proofs.bark_encode_parameters
 use Rattle.c_forward_words.proofs.bark_decode_parameters
-use Rattle.c_forward_words.proofs.bark_encode_transport
-use Rattle.c_forward_words.proofs.bark_decode_transport
 use Rattle.c_forward_words.proofs.Exact as CForwardWords
+use Rattle.c_transport_words.proofs.bark_encode_transport
+use Rattle.c_transport_words.proofs.bark_decode_transport
+use Rattle.c_transport_words.proofs.Exact as CTransportWords
 use Rattle.c_forwards.proofs.bark_read_forward_open
 use Rattle.c_forwards.proofs.bark_default_forward_open
 use Rattle.c_forwards.proofs.bark_read_forward_close
@@ -282,6 +283,7 @@ pub record Claims : Type 2 where
   -- c_forward_words
   pub bark-encode-parameters : Exact bark_encode_parameters.ended (λ _. bark_encode_parameters.clauses)
   pub bark-decode-parameters : Exact bark_decode_parameters.ended (λ _. bark_decode_parameters.clauses)
+  -- c_transport_words
   pub bark-encode-transport : Exact bark_encode_transport.ended (λ _. bark_encode_transport.clauses)
   pub bark-decode-transport : Exact bark_decode_transport.ended (λ _. bark_decode_transport.clauses)
   -- c_forwards
@@ -406,8 +408,8 @@ claims =
       bark-read-unconnected-send = CRequests.bark-read-unconnected-send-exact;
       bark-encode-parameters = CForwardWords.bark-encode-parameters-exact;
       bark-decode-parameters = CForwardWords.bark-decode-parameters-exact;
-      bark-encode-transport = CForwardWords.bark-encode-transport-exact;
-      bark-decode-transport = CForwardWords.bark-decode-transport-exact;
+      bark-encode-transport = CTransportWords.bark-encode-transport-exact;
+      bark-decode-transport = CTransportWords.bark-decode-transport-exact;
       bark-read-forward-open = CForwards.bark-read-forward-open-exact;
       bark-default-forward-open = CForwards.bark-default-forward-open-exact;
       bark-read-forward-close = CForwards.bark-read-forward-close-exact;
