@@ -15,7 +15,7 @@ use Rattle.connection_words.specs.Fields.{unit, flagsOf, parameterWord, paramet
 use Rattle.connection_words.specs.declared.ParametersRead.{ParametersRead}
 use Rattle.connection_words.specs.declared.ParametersRead.the-variants.{Found, Refused}
 use Rattle.connection_words.proofs.FieldLaws.{bit-most, word-over, word-is}
-use Rattle.connection_words.proofs.Words.{bit-again, variable-again, priority-again, type-again, word-was}
+use Rattle.connection_words.proofs.Words.{bit-again, variable-again, priority-again, type-again, parameters-were}
 use Rattle.c_answers.specs.Codes.{code}
 use Rattle.c_forward_words.specs.Words.{parametersFrom, encodedParameters, parameterNumbers}
 
@@ -75,7 +75,7 @@ pub parameter-numbers : (large : Bool) (word : ℕ) (w : ParametersRead) (p : Co
     → (f / 64 % 2 ∷ f / 16 % 4 ∷ f % 2 ∷ f / 2 % 4 ∷ word % u ∷ []) ≡ parameterNumbers p
 unfolding parametersOf
 parameter-numbers large word w p u f is h of by =
-    let k = word-was large word p (sym is ∙ ap paperParameters h) in
+    let k = parameters-were large word p (sym is ∙ ap paperParameters h) in
     let g : ℕ = word / unit large in
     rw
     (by, of, ← k .1, bit-again (g / 64 % 2) (omega arith), type-again (g / 16 % 4) (k .0 .1 .1 .1 .0), variable-again (g % 2) (omega arith), priority-again (g / 2 % 4) (omega arith))

@@ -17,7 +17,7 @@ use Rattle.connection_words.specs.Fields.{classTrigger, transport, readTranspor
 use Rattle.connection_words.specs.declared.TransportRead.{TransportRead}
 use Rattle.connection_words.specs.declared.TransportRead.the-variants.{Found, Refused}
 use Rattle.connection_words.proofs.FieldLaws.{bit-most}
-use Rattle.connection_words.proofs.Words.{direction-again, trigger-again, class-again, byte-was}
+use Rattle.connection_words.proofs.Words.{direction-again, trigger-again, class-again, transport-were}
 use Rattle.c_answers.specs.Codes.{code}
 use Rattle.c_transport_words.specs.Transports.{transportByte, encodedTransport, transportNumbers}
 
@@ -56,7 +56,7 @@ some-transport w d t c h = ap paperTransport h
 pub transport-numbers : (b : ℕ) (w : TransportRead) (d : Direction) (t : TriggerType) (c : TransportClass)
     → b < 256 → paperTransport w ≡ readTransport b → w ≡ Found d t c → (b / 128 ∷ b / 16 % 8 ∷ b % 16 ∷ []) ≡ transportNumbers (transport d t c)
 transport-numbers b w d t c l is h =
-    let k = byte-was b (transport d t c) (sym is ∙ ap paperTransport h) in
+    let k = transport-were b (transport d t c) (sym is ∙ ap paperTransport h) in
     let n : (b / 128 ∷ b / 16 % 8 ∷ b % 16 ∷ []) ≡ transportNumbers (transport (directionOf (b / 128)) (triggerOf (b / 16 % 8)) (classOf (b % 16))) =
     rw (direction-again (b / 128) (omega arith), trigger-again (b / 16 % 8) (k .0 .0), class-again (b % 16) (k .0 .1 .0)) in
     n ∙ ap transportNumbers (k .1)

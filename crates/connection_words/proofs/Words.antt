@@ -198,10 +198,10 @@ parameters-read-of-written large p h =
     ∙ rw (a, b) (ap done (g .parts (p .«connection_size») refl))
 
 -- a word that was read kept each rule, and its parts are what was read
-pub word-was : (large : Bool) (w : ℕ) (p : ConnectionParameters) → readParameters large w ≡ done p
+pub parameters-were : (large : Bool) (w : ℕ) (p : ConnectionParameters) → readParameters large w ≡ done p
     → KeepsAll (wordRules large w) × (parametersOf (w % unit large) (w / unit large) ≡ p)
 unfolding readParameters
-word-was large w p h =
+parameters-were large w p h =
     let u = all-were (wordRules large w) (done (parametersOf (w % unit large) (w / unit large))) p h in
     let e : done (parametersOf (w % unit large) (w / unit large)) ≡ done p = u .1 in
     (u .0, cc)
@@ -214,7 +214,7 @@ pub record WordWas (large : Bool) (w : ℕ) (p : ConnectionParameters) : Type 0 
 pub parameters-written-of-read : (large : Bool) (w : ℕ) (p : ConnectionParameters) → readParameters large w ≡ done p → WordWas large w p
 unfolding wordOf parametersOf
 parameters-written-of-read large w p h =
-    let u = word-was large w p h in
+    let u = parameters-were large w p h in
     rw (← u .1) (was (u .0 .0) (u .0 .1 .0) (u .0 .1 .1 .0) (u .0 .1 .1 .1 .0))
   where
     was : w % unit large ≤ sizeLimit large → w / unit large ≤ 127 → w / unit large / 8 % 2 ≡ 0 → w / unit large / 16 % 4 ≤ 2
@@ -260,10 +260,10 @@ transport-read-of-written o =
     ∙ rw (x, y, z, direction-back (o .«transport_direction»), trigger-back (o .«transport_trigger»), class-back (o .«transport_class»))
 
 -- a byte that was read kept each rule, and its parts are what was read
-pub byte-was : (b : ℕ) (t : Transport) → readTransport b ≡ done t
+pub transport-were : (b : ℕ) (t : Transport) → readTransport b ≡ done t
     → KeepsAll (transportRules b) × (transport (directionOf (b / 128)) (triggerOf (b / 16 % 8)) (classOf (b % 16)) ≡ t)
 unfolding readTransport
-byte-was b t h =
+transport-were b t h =
     let u = all-were (transportRules b) (done (transport (directionOf (b / 128)) (triggerOf (b / 16 % 8)) (classOf (b % 16)))) t h in
     let e : done (transport (directionOf (b / 128)) (triggerOf (b / 16 % 8)) (classOf (b % 16))) ≡ done t = u .1 in
     (u .0, cc)
@@ -273,7 +273,7 @@ pub transport-written-of-read : (o : OpenOptions) (b : ℕ) → b < 256 → read
     → classTrigger o ≡ b
 unfolding classTrigger
 transport-written-of-read o b l h =
-    let u = byte-was b (transport (o .«transport_direction») (o .«transport_trigger») (o .«transport_class»)) h in
+    let u = transport-were b (transport (o .«transport_direction») (o .«transport_trigger») (o .«transport_class»)) h in
     let e : transport (directionOf (b / 128)) (triggerOf (b / 16 % 8)) (classOf (b % 16)) ≡ transport (o .«transport_direction») (o .«transport_trigger») (o .«transport_class») = u .1 in
     let x : directionOf (b / 128) ≡ o .«transport_direction» = cc in
     let y : triggerOf (b / 16 % 8) ≡ o .«transport_trigger» = cc in
