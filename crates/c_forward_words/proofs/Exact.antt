@@ -2,10 +2,8 @@
 -- Assumes nothing.
 use mathlib.Core.Path.{refl}
 use Rattle.exact.specs.Exact.{Exact, exact, says, same}
-use Rattle.c_forward_words.proofs.parameters.bark_encode_parameters
-use Rattle.c_forward_words.proofs.parameters.bark_decode_parameters
-use Rattle.c_forward_words.proofs.transport.bark_encode_transport
-use Rattle.c_forward_words.proofs.transport.bark_decode_transport
+use Rattle.c_forward_words.proofs.bark_encode_parameters
+use Rattle.c_forward_words.proofs.bark_decode_parameters
 
 pub bark-encode-parameters-exact : Exact bark_encode_parameters.ended (λ _. bark_encode_parameters.clauses)
 bark-encode-parameters-exact = exact (λ w κs a. (tt, λ m. tt)) (λ w κs a g z e. search says) (λ t. (same (t .said) (t .said′), refl))
@@ -13,10 +11,3 @@ bark-encode-parameters-exact = exact (λ w κs a. (tt, λ m. tt)) (λ w κs a g 
 pub bark-decode-parameters-exact : Exact bark_decode_parameters.ended (λ _. bark_decode_parameters.clauses)
 bark-decode-parameters-exact = exact (λ w κs a. (tt, λ m. tt)) (λ w κs a g z e. search says) (λ t.
     (same (t .said .0) (t .said′ .0), λ i. (tt, (tt, (same (t .said .1) (t .said′ .1) i, tt)))))
-
-pub bark-encode-transport-exact : Exact bark_encode_transport.ended (λ _. bark_encode_transport.clauses)
-bark-encode-transport-exact = exact (λ w κs a. (tt, λ m. tt)) (λ w κs a g z e. search says) (λ t. (same (t .said) (t .said′), refl))
-
-pub bark-decode-transport-exact : Exact bark_decode_transport.ended (λ _. bark_decode_transport.clauses)
-bark-decode-transport-exact = exact (λ w κs a. (tt, λ m. tt)) (λ w κs a g z e. search says) (λ t.
-    (same (t .said .0) (t .said′ .0), λ i. (tt, (same (t .said .1) (t .said′ .1) i, tt))))

@@ -129,15 +129,18 @@ use Rattle.c_requests.proofs.bark_read_unconnected_send
 use Rattle.c_requests.proofs.Exact as CRequests
 use Rattle.c_forward_words.proofs.bark_encode_parameters
 use Rattle.c_forward_words.proofs.bark_decode_parameters
-use Rattle.c_forward_words.proofs.bark_encode_transport
-use Rattle.c_forward_words.proofs.bark_decode_transport
 use Rattle.c_forward_words.proofs.Exact as CForwardWords
-use Rattle.c_forwards.proofs.bark_read_forward_open
-use Rattle.c_forwards.proofs.bark_default_forward_open
-use Rattle.c_forwards.proofs.bark_read_forward_close
-use Rattle.c_forwards.proofs.bark_write_forward_close
-use Rattle.c_forwards.proofs.bark_write_forward_open
-use Rattle.c_forwards.proofs.Exact as CForwards
+use Rattle.c_transport_words.proofs.bark_encode_transport
+use Rattle.c_transport_words.proofs.bark_decode_transport
+use Rattle.c_transport_words.proofs.Exact as CTransportWords
+use Rattle.c_opens.proofs.bark_read_forward_open
+use Rattle.c_opens.proofs.bark_default_forward_open
+use Rattle.c_opens.proofs.Exact as COpens
+use Rattle.c_open_writes.proofs.bark_write_forward_open
+use Rattle.c_open_writes.proofs.Exact as COpenWrites
+use Rattle.c_closes.proofs.bark_read_forward_close
+use Rattle.c_closes.proofs.bark_write_forward_close
+use Rattle.c_closes.proofs.Exact as CCloses
 use Rattle.c_reply_numbers.proofs.reply_numbers
 use Rattle.c_reply_numbers.proofs.Exact as CReplyNumbers
 use Rattle.c_replies.proofs.bark_read_reply
@@ -294,14 +297,17 @@ pub record Claims : Type 2 where
   -- c_forward_words
   pub bark-encode-parameters : Exact bark_encode_parameters.ended (λ _. bark_encode_parameters.clauses)
   pub bark-decode-parameters : Exact bark_decode_parameters.ended (λ _. bark_decode_parameters.clauses)
+  -- c_transport_words
   pub bark-encode-transport : Exact bark_encode_transport.ended (λ _. bark_encode_transport.clauses)
   pub bark-decode-transport : Exact bark_decode_transport.ended (λ _. bark_decode_transport.clauses)
-  -- c_forwards
+  -- c_opens
   pub bark-read-forward-open : Exact bark_read_forward_open.ended (λ _. bark_read_forward_open.clauses)
   pub bark-default-forward-open : Exact bark_default_forward_open.ended (λ _. bark_default_forward_open.clauses)
+  -- c_open_writes
+  pub bark-write-forward-open : Exact bark_write_forward_open.ended (λ _. bark_write_forward_open.clauses)
+  -- c_closes
   pub bark-read-forward-close : Exact bark_read_forward_close.ended (λ _. bark_read_forward_close.clauses)
   pub bark-write-forward-close : Exact bark_write_forward_close.ended (λ _. bark_write_forward_close.clauses)
-  pub bark-write-forward-open : Exact bark_write_forward_open.ended (λ _. bark_write_forward_open.clauses)
   -- c_reply_numbers
   pub reply-numbers : Exact reply_numbers.ended (λ _. reply_numbers.clauses)
   -- c_replies
@@ -420,13 +426,13 @@ claims =
       bark-read-unconnected-send = CRequests.bark-read-unconnected-send-exact;
       bark-encode-parameters = CForwardWords.bark-encode-parameters-exact;
       bark-decode-parameters = CForwardWords.bark-decode-parameters-exact;
-      bark-encode-transport = CForwardWords.bark-encode-transport-exact;
-      bark-decode-transport = CForwardWords.bark-decode-transport-exact;
-      bark-read-forward-open = CForwards.bark-read-forward-open-exact;
-      bark-default-forward-open = CForwards.bark-default-forward-open-exact;
-      bark-read-forward-close = CForwards.bark-read-forward-close-exact;
-      bark-write-forward-close = CForwards.bark-write-forward-close-exact;
-      bark-write-forward-open = CForwards.bark-write-forward-open-exact;
+      bark-encode-transport = CTransportWords.bark-encode-transport-exact;
+      bark-decode-transport = CTransportWords.bark-decode-transport-exact;
+      bark-read-forward-open = COpens.bark-read-forward-open-exact;
+      bark-default-forward-open = COpens.bark-default-forward-open-exact;
+      bark-write-forward-open = COpenWrites.bark-write-forward-open-exact;
+      bark-read-forward-close = CCloses.bark-read-forward-close-exact;
+      bark-write-forward-close = CCloses.bark-write-forward-close-exact;
       reply-numbers = CReplyNumbers.reply-numbers-exact;
       bark-read-reply = CReplies.bark-read-reply-exact;
       status-of = CReplies.status-of-exact;

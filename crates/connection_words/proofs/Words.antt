@@ -6,12 +6,12 @@ use mathlib.Core.Bool.{Bool, true, false}
 use native.Mathlib.Nat.{div-div-eq-div-mul}
 use native.Mathlib.Omega.{arith}
 use lib.Dec.{eqb}
-use Rattle.wire.specs.Answers.{done}
+use Rattle.wire.specs.Answers.{done, KeepsAll}
 use Rattle.wire.proofs.Rules.{all-keep, all-were}
 use Rattle.connection_words.specs.Codes.{bit, variableNumber, priorityNumber, typeNumber, directionNumber, triggerNumber, classNumber, variableOf, priorityOf, typeOf, directionOf, triggerOf, classOf}
 use Rattle.connection.specs.Limits.{sizeLimit}
 use Rattle.connection.specs.Defaults.{defaultParameters, defaultOptions}
-use Rattle.connection_words.specs.Fields.{unit, flagsOf, wordOf, parametersOf, wordRules, readParameters, classTrigger, transport, transportRules, readTransport}
+use Rattle.connection_words.specs.Fields.{unit, flagsOf, wordOf, parametersOf, wordRules, readParameters, classTrigger, Transport, transport, transportRules, readTransport}
 use Rattle.connection_words.specs.Requests.{parameterWidth}
 use Rattle.connection.specs.declared.ConnectionType.{ConnectionType}
 use Rattle.connection.specs.declared.ConnectionType.the-variants.{Null, Multicast, P2P}
@@ -68,41 +68,41 @@ class-back Class4 = refl
 class-back Class5 = refl
 class-back Class6 = refl
 
-bit-again : (n : ℕ) → n ≤ 1 → bit (eqb n 1) ≡ n
+pub bit-again : (n : ℕ) → n ≤ 1 → bit (eqb n 1) ≡ n
 bit-again zero h = refl
 bit-again (suc zero) h = refl
 bit-again (suc (suc n)) h = absurd (omega arith)
 
-variable-again : (n : ℕ) → n ≤ 1 → variableNumber (variableOf n) ≡ n
+pub variable-again : (n : ℕ) → n ≤ 1 → variableNumber (variableOf n) ≡ n
 variable-again zero h = refl
 variable-again (suc zero) h = refl
 variable-again (suc (suc n)) h = absurd (omega arith)
 
-priority-again : (n : ℕ) → n ≤ 3 → priorityNumber (priorityOf n) ≡ n
+pub priority-again : (n : ℕ) → n ≤ 3 → priorityNumber (priorityOf n) ≡ n
 priority-again zero h = refl
 priority-again (suc zero) h = refl
 priority-again (suc (suc zero)) h = refl
 priority-again (suc (suc (suc zero))) h = refl
 priority-again (suc (suc (suc (suc n)))) h = absurd (omega arith)
 
-type-again : (n : ℕ) → n ≤ 2 → typeNumber (typeOf n) ≡ n
+pub type-again : (n : ℕ) → n ≤ 2 → typeNumber (typeOf n) ≡ n
 type-again zero h = refl
 type-again (suc zero) h = refl
 type-again (suc (suc zero)) h = refl
 type-again (suc (suc (suc n))) h = absurd (omega arith)
 
-direction-again : (n : ℕ) → n ≤ 1 → directionNumber (directionOf n) ≡ n
+pub direction-again : (n : ℕ) → n ≤ 1 → directionNumber (directionOf n) ≡ n
 direction-again zero h = refl
 direction-again (suc zero) h = refl
 direction-again (suc (suc n)) h = absurd (omega arith)
 
-trigger-again : (n : ℕ) → n ≤ 2 → triggerNumber (triggerOf n) ≡ n
+pub trigger-again : (n : ℕ) → n ≤ 2 → triggerNumber (triggerOf n) ≡ n
 trigger-again zero h = refl
 trigger-again (suc zero) h = refl
 trigger-again (suc (suc zero)) h = refl
 trigger-again (suc (suc (suc n))) h = absurd (omega arith)
 
-class-again : (n : ℕ) → n ≤ 6 → classNumber (classOf n) ≡ n
+pub class-again : (n : ℕ) → n ≤ 6 → classNumber (classOf n) ≡ n
 class-again zero h = refl
 class-again (suc zero) h = refl
 class-again (suc (suc zero)) h = refl
@@ -197,18 +197,25 @@ parameters-read-of-written large p h =
     (rw a h, (rw b (omega (arith, flags-most p)), (rw b (g .reserved), (rw b (g .kind), tt))))
     ∙ rw (a, b) (ap done (g .parts (p .«connection_size») refl))
 
+-- a word that was read kept each rule, and its parts are what was read
+pub parameters-were : (large : Bool) (w : ℕ) (p : ConnectionParameters) → readParameters large w ≡ done p
+    → KeepsAll (wordRules large w) × (parametersOf (w % unit large) (w / unit large) ≡ p)
+unfolding readParameters
+parameters-were large w p h =
+    let u = all-were (wordRules large w) (done (parametersOf (w % unit large) (w / unit large))) p h in
+    let e : done (parametersOf (w % unit large) (w / unit large)) ≡ done p = u .1 in
+    (u .0, cc)
+
 -- written of read
 pub record WordWas (large : Bool) (w : ℕ) (p : ConnectionParameters) : Type 0 where
   pub word : wordOf large p ≡ w
   pub size : p .«connection_size» ≤ sizeLimit large
 
 pub parameters-written-of-read : (large : Bool) (w : ℕ) (p : ConnectionParameters) → readParameters large w ≡ done p → WordWas large w p
-unfolding readParameters wordOf parametersOf
+unfolding wordOf parametersOf
 parameters-written-of-read large w p h =
-    let u = all-were (wordRules large w) (done (parametersOf (w % unit large) (w / unit large))) p h in
-    let e : done (parametersOf (w % unit large) (w / unit large)) ≡ done p = u .1 in
-    let f : parametersOf (w % unit large) (w / unit large) ≡ p = cc in
-    rw (← f) (was (u .0 .0) (u .0 .1 .0) (u .0 .1 .1 .0) (u .0 .1 .1 .1 .0))
+    let u = parameters-were large w p h in
+    rw (← u .1) (was (u .0 .0) (u .0 .1 .0) (u .0 .1 .1 .0) (u .0 .1 .1 .1 .0))
   where
     was : w % unit large ≤ sizeLimit large → w / unit large ≤ 127 → w / unit large / 8 % 2 ≡ 0 → w / unit large / 16 % 4 ≤ 2
         → WordWas large w (parametersOf (w % unit large) (w / unit large))
@@ -252,14 +259,22 @@ transport-read-of-written o =
     all-keep (transportRules b) (done (transport (directionOf (b / 128)) (triggerOf (b / 16 % 8)) (classOf (b % 16)))) (rw x j, (rw y k, tt))
     ∙ rw (x, y, z, direction-back (o .«transport_direction»), trigger-back (o .«transport_trigger»), class-back (o .«transport_class»))
 
+-- a byte that was read kept each rule, and its parts are what was read
+pub transport-were : (b : ℕ) (t : Transport) → readTransport b ≡ done t
+    → KeepsAll (transportRules b) × (transport (directionOf (b / 128)) (triggerOf (b / 16 % 8)) (classOf (b % 16)) ≡ t)
+unfolding readTransport
+transport-were b t h =
+    let u = all-were (transportRules b) (done (transport (directionOf (b / 128)) (triggerOf (b / 16 % 8)) (classOf (b % 16)))) t h in
+    let e : done (transport (directionOf (b / 128)) (triggerOf (b / 16 % 8)) (classOf (b % 16))) ≡ done t = u .1 in
+    (u .0, cc)
+
 -- written of read
 pub transport-written-of-read : (o : OpenOptions) (b : ℕ) → b < 256 → readTransport b ≡ done (transport (o .«transport_direction») (o .«transport_trigger») (o .«transport_class»))
     → classTrigger o ≡ b
-unfolding readTransport classTrigger
+unfolding classTrigger
 transport-written-of-read o b l h =
-    let u = all-were (transportRules b) (done (transport (directionOf (b / 128)) (triggerOf (b / 16 % 8)) (classOf (b % 16))))
-    (transport (o .«transport_direction») (o .«transport_trigger») (o .«transport_class»)) h in
-    let e : done (transport (directionOf (b / 128)) (triggerOf (b / 16 % 8)) (classOf (b % 16))) ≡ done (transport (o .«transport_direction») (o .«transport_trigger») (o .«transport_class»)) = u .1 in
+    let u = transport-were b (transport (o .«transport_direction») (o .«transport_trigger») (o .«transport_class»)) h in
+    let e : transport (directionOf (b / 128)) (triggerOf (b / 16 % 8)) (classOf (b % 16)) ≡ transport (o .«transport_direction») (o .«transport_trigger») (o .«transport_class») = u .1 in
     let x : directionOf (b / 128) ≡ o .«transport_direction» = cc in
     let y : triggerOf (b / 16 % 8) ≡ o .«transport_trigger» = cc in
     let z : classOf (b % 16) ≡ o .«transport_class» = cc in

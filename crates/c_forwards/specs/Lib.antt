@@ -1,2 +1,0 @@
-pub mod Forwards
-pub mod Writes
