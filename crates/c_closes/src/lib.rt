@@ -2,8 +2,8 @@
 use c_answers::fill;
 use c_answers::refusal_answer;
 use c_answers::size_answer;
-use connection::ForwardCloseRequest;
 use close_encode::write_forward_close_over;
+use connection::ForwardCloseRequest;
 use forward_read::CloseRead;
 use forward_read::read_forward_close;
 ghost use mathlib.Core.Path.{_≡_};
