@@ -2,7 +2,7 @@
 use Prim.Native.Nat.{ℕ, zero, suc, _+_, _/_, _%_, _^_, _≤_, _<_}
 use mathlib.Core.Path.{_≡_, refl, sym, ap, _∙_}
 use mathlib.Core.List.{List, [], _∷_, _++_}
-use mathlib.Core.Logic.{_⊎_, ⊎-elim}
+use mathlib.Core.Logic.{⊎-elim}
 use native.Mathlib.Omega.{arith}
 use native.Mathlib.Nat.{add-zero}
 use lib.ListN.{length, getD, take, drop, length-drop}
@@ -17,12 +17,13 @@ use Rattle.epath_sizes.specs.Lists.{meaning, startOf, lenOf}
 use Rattle.epath_segment.specs.declared.decode.Kind.{Kind}
 use Rattle.epath_segment.specs.declared.decode.Kind.the-variants.{Class as kClass, Instance as kInstance, Attribute as kAttribute, Element as kElement}
 use Rattle.epath_segment.specs.declared.decode.Form.{Form}
-use Rattle.epath_segment.proofs.ReadLaws.{number-low, number-high, port-one, port-long}
+use Rattle.epath_segment.specs.declared.decode.Form.the-variants.{Port as fPort, Symbol as fSymbol, Narrow, Wide, Widest, Unknown}
+use Rattle.epath_segment.proofs.ReadLaws.{codeOf, number-low, number-high, port-one, port-long}
 use Rattle.epath_sizes.specs.declared.Segment.{Segment}
 use Rattle.epath_sizes.specs.declared.Segment.the-variants.{Symbol, Element, Port}
 use Rattle.epath_segment.specs.Reads.{front, padRules, readPart, readWide, readNarrow, readSymbol, readLink, readPortNumber, readPort, readAs, readSeg, made, formOf}
 use Rattle.epath_sizes.proofs.Forms.{number-one, number-two, number-four, head-short, head-long, head-escaped, head-both, padded-even, padded-odd}
-use Rattle.epath_segment.proofs.Begins.{codeOf, Begins, begins, symbol as bSymbol, port as bPort, narrow as bNarrow, wide as bWide, widest as bWidest, unknown as bUnknown}
+use Rattle.epath_segment.proofs.Begins.{Begins, begins}
 
 -- ---- bytes with a pad
 pub record Ended (t : List ℕ) (x y : Segment) (end n : ℕ) : Type 0 where
@@ -232,12 +233,12 @@ got-port t x n b l s h = ⊎-elim
 
 -- ---- a segment
 got-as : (t : List ℕ) (f : Form) (x : Segment) (n : ℕ) → Bytes t → 1 ≤ length t → Begins (getD t 0 0) f → readAs f (getD t 0 0) t ≡ done (front x n) → Got t x n
-got-as t _ x n b l (bPort s) h = got-port t x n b l s h
-got-as t _ x n b l (bSymbol s) h = got-symbol t x n b s h
-got-as t _ x n b l (bNarrow k s) h = got-narrow t k x n b s h
-got-as t _ x n b l (bWide k s) h = got-wide t k x n b s h
-got-as t _ x n b l (bWidest s) h = got-widest t x n b s h
-got-as t _ x n b l bUnknown h = never h
+got-as t fPort x n b l s h = got-port t x n b l s h
+got-as t fSymbol x n b l s h = got-symbol t x n b s h
+got-as t (Narrow k) x n b l s h = got-narrow t k x n b s h
+got-as t (Wide k) x n b l s h = got-wide t k x n b s h
+got-as t Widest x n b l s h = got-widest t x n b s h
+got-as t Unknown x n b l s h = never h
 
 pub got : (t : List ℕ) (x : Segment) (n : ℕ) → Bytes t → readSeg t ≡ done (front x n) → Got t x n
 unfolding readSeg
