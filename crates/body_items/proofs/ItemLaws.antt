@@ -12,7 +12,7 @@ use Rattle.wire.specs.Answers.{done, refused, paperCount, under, judged}
 use Rattle.wire.specs.declared.Refusal.{Refusal}
 use Rattle.wire.specs.declared.Counted.{Counted}
 use Rattle.wire.specs.declared.Counted.the-variants.{Count, Refused as NotCounted}
-use Rattle.wire.proofs.Rules.{rules, all-keep, all-were, then-stops, then-goes, Went, then-were}
+use Rattle.wire.proofs.Rules.{rules, done-same, all-keep, all-were, then-stops, then-goes, Went, then-were}
 use Rattle.wire.proofs.Numbers.{below-or, value-two}
 use Rattle.connection.specs.Limits.{maxRecord}
 use Rattle.body_encode.specs.Bodies.{tableEnd}
@@ -171,8 +171,7 @@ pub walk-inside : (s : List ℕ) (n k : ℕ) (i : Item) → walkItem s n k ≡ d
 unfolding walkItem
 walk-inside s n k i h =
     let w = all-were (walkRules s n k) (done (itemAt s n k)) i h in
-    let d : done (itemAt s n k) ≡ done i = w .1 in
-    let e : itemAt s n k ≡ i = cc in
+    let e : itemAt s n k ≡ i = done-same (w .1) in
     omega (arith, w .0 .0, w .0 .1 .1 .1 .1 .0, w .0 .1 .1 .1 .1 .1 .0, ap (λ (x : Item). x .start) e)
 
 -- an item that was found: the body was accepted, and this is its item

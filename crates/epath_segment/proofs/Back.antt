@@ -7,7 +7,7 @@ use native.Mathlib.Omega.{arith}
 use lib.ListN.{length, getD, take, drop, length-append}
 use lib.Seq.{take-append-seam, drop-at, getD-append-seam}
 use Rattle.wire.specs.Numbers.{valueOf, lowFirst}
-use Rattle.wire.specs.Answers.{Answer, done, under, other}
+use Rattle.wire.specs.Answers.{Answer, done}
 use Rattle.wire.proofs.Numbers.{value-low, low-length, below-or}
 use Rattle.wire.proofs.Rules.{all-keep}
 use Rattle.epath_sizes.specs.Limits.{maxLink, nearPort, farPortCode, longLink, elementCode, symbolCode}
@@ -32,7 +32,7 @@ starts b t f z e h = sym (front-is (b ∷ t) b f f z refl e refl (omega arith) (
 -- ---- numbers
 narrow-back : (make : ℕ → Segment) (c v : ℕ) (rest : List ℕ) → readNarrow make (c ∷ v ∷ rest) ≡ done (front (make v) 2)
 unfolding readNarrow
-narrow-back make c v rest = all-keep (under (length (c ∷ v ∷ rest)) 2 1 ∷ []) (done (front (make v) 2)) (omega arith, tt)
+narrow-back make c v rest = all-keep _ _ (omega arith, tt)
 
 -- a wide form, over its width
 wide-back : (make : ℕ → Segment) (w least c v : ℕ) (rest : List ℕ) → least ≤ v → v < 256 ^ w → readWide make w least (c ∷ 0 ∷ (lowFirst w v ++ rest)) ≡ done (front (make v) (2 + w))
@@ -42,7 +42,7 @@ wide-back make w least c v rest l h =
     let m : ℕ = valueOf w (lowFirst w v ++ rest) in
     let e : m ≡ v = value-low w v rest h in
     let long : 2 + w ≤ length t = omega (arith, length-append (lowFirst w v) rest, low-length w v) in
-    all-keep (under (length t) 2 1 ∷ other 0 0 5 ∷ under (length t) (2 + w) 1 ∷ under m least 5 ∷ []) (done (front (make m) (2 + w)))
+    all-keep _ _
     (omega arith, (refl, (long, (omega arith, tt))))
     ∙ rw e
 
@@ -186,11 +186,11 @@ port-parsed p link rest o m = ⊎-elim
     (near-or p)
 
 -- T1 for one segment and any rest: what is written is read, an empty link as [0]
-pub read-written : (x : Seg) → Fine x → (rest : List ℕ) → parse (encodeSeg x ++ rest) ≡ done (parsed (norm x) (length (encodeSeg x)))
-read-written (symbol bs) f rest = rw (symbol-back bs rest, behind (symbolCode ∷ length bs ∷ []) bs rest)
-read-written (class v) f rest = rw (number-back kClass v rest f)
-read-written (instance v) f rest = rw (number-back kInstance v rest f)
-read-written (attribute v) f rest = rw (number-back kAttribute v rest f)
-read-written (element v) f rest = rw (element-back v rest f)
-read-written (port p []) f rest = rw (← norm-same (port p [])) (port-parsed p (0 ∷ []) rest (omega arith) (omega arith))
-read-written (port p (b ∷ bs)) f rest = port-parsed p (b ∷ bs) rest (omega arith) (f .1)
+pub segment-read-of-written : (x : Seg) → Fine x → (rest : List ℕ) → parse (encodeSeg x ++ rest) ≡ done (parsed (norm x) (length (encodeSeg x)))
+segment-read-of-written (symbol bs) f rest = rw (symbol-back bs rest, behind (symbolCode ∷ length bs ∷ []) bs rest)
+segment-read-of-written (class v) f rest = rw (number-back kClass v rest f)
+segment-read-of-written (instance v) f rest = rw (number-back kInstance v rest f)
+segment-read-of-written (attribute v) f rest = rw (number-back kAttribute v rest f)
+segment-read-of-written (element v) f rest = rw (element-back v rest f)
+segment-read-of-written (port p []) f rest = rw (← norm-same (port p [])) (port-parsed p (0 ∷ []) rest (omega arith) (omega arith))
+segment-read-of-written (port p (b ∷ bs)) f rest = port-parsed p (b ∷ bs) rest (omega arith) (f .1)

@@ -10,7 +10,7 @@ use Rattle.wire.specs.Answers.{Answer, done, refused, under, over, judged}
 use Rattle.wire.proofs.Rules.{rules}
 use Rattle.epath_sizes.specs.Limits.{maxLink, portEnd, nearPort, farPortCode, longLink, classCode, instanceCode, elementCode, attributeCode, symbolCode}
 use Rattle.epath_sizes.specs.declared.Segment.{Segment}
-use Rattle.epath_sizes.specs.declared.Segment.the-variants.{Symbol, Port}
+use Rattle.epath_sizes.specs.declared.Segment.the-variants.{Symbol, Class, Instance, Attribute, Element, Port}
 use Rattle.epath_sizes.specs.Segments.{farValue}
 use Rattle.epath_segment.specs.declared.decode.Kind.{Kind}
 use Rattle.epath_segment.specs.declared.decode.Kind.the-variants.{Class as kClass, Instance as kInstance, Attribute as kAttribute, Element as kElement}
@@ -232,9 +232,21 @@ module _ (t : List ℕ) where
 
   -- ---- the most common forms, where two bytes are there
   module _ (h : 2 ≤ length t) where
-    pub narrow-front : (k : Kind) → getD t 0 0 ≡ codeOf k → done (front (made k (getD t 1 0)) 2) ≡ readSeg t
+    narrow-front : (k : Kind) → getD t 0 0 ≡ codeOf k → done (front (made k (getD t 1 0)) 2) ≡ readSeg t
     narrow-front k e =
         front-is (getD t 0 0) (Narrow k) (Narrow k) _ refl (form-narrow _ k e) refl (omega arith) (narrow-is t (made k) (getD t 1 0) _ refl refl h)
+
+    pub class-front : getD t 0 0 ≡ classCode → done (front (Class (getD t 1 0)) 2) ≡ readSeg t
+    class-front = narrow-front kClass
+
+    pub instance-front : getD t 0 0 ≡ instanceCode → done (front (Instance (getD t 1 0)) 2) ≡ readSeg t
+    instance-front = narrow-front kInstance
+
+    pub attribute-front : getD t 0 0 ≡ attributeCode → done (front (Attribute (getD t 1 0)) 2) ≡ readSeg t
+    attribute-front = narrow-front kAttribute
+
+    pub element-front : getD t 0 0 ≡ elementCode → done (front (Element (getD t 1 0)) 2) ≡ readSeg t
+    element-front = narrow-front kElement
 
     pub port-front : getD t 0 0 < farPortCode → done (front (Port (record { port = getD t 0 0 % longLink; start = 1; len = 1 })) 2) ≡ readSeg t
     port-front l =

@@ -150,17 +150,14 @@ path-sized pool p n h =
     }
 
 module _ (pool : List ℕ) (p : Path) (w : Wrote) (n : ℕ) (is : paperSize w ≡ pathSize pool p) (h : w ≡ Size n) where
-  was : PathSized pool p n
-  was = path-sized pool p n (sym is ∙ ap paperSize h)
-
   pub path-few : p .count ≤ maxSegments
-  path-few = was .few
+  path-few = path-sized pool p n (sym is ∙ ap paperSize h) .few
 
   pub path-good : AllGood pool p
-  path-good = was .good
+  path-good = path-sized pool p n (sym is ∙ ap paperSize h) .good
 
   pub path-length : n ≡ length (encode (segsOf pool p))
-  path-length = was .size
+  path-length = path-sized pool p n (sym is ∙ ap paperSize h) .size
 
   pub path-room : (old : List ℕ) → n ≤ length old → length (encode (segsOf pool p)) ≤ length old
   path-room old l = omega (arith, path-length)

@@ -13,7 +13,7 @@ use Rattle.wire.specs.Records.{laid}
 use Rattle.wire.specs.declared.Refusal.{Refusal}
 use Rattle.wire.specs.declared.Wrote.{Wrote}
 use Rattle.wire.specs.declared.Wrote.the-variants.{Size, Refused}
-use Rattle.wire.proofs.Rules.{all-were, then-stops, then-goes, Went, then-were}
+use Rattle.wire.proofs.Rules.{done-same, all-were, then-stops, then-goes, Went, then-were}
 use Rattle.wire.proofs.Records.{laid-length, laid-size}
 use Rattle.connection_words.proofs.Lengths.{close-length, open-length}
 use Rattle.epath_sizes.specs.Segments.{encode}
@@ -106,8 +106,7 @@ module _ (pool : List ℕ) (p : Path) (r : Wrote) (size : ℕ) (h : r ≡ Size s
   unfolding closeSize
   close-ready out is g =
       let w : Left pool p (λ k. done (12 + k)) size = left pool p (λ k. done (12 + k)) size (sym is ∙ ap paperSize h) in
-      let e : done (12 + w .n) ≡ done size = w .then in
-      let q : 12 + w .n ≡ size = cc in
+      let q : 12 + w .n ≡ size = done-same (w .then) in
       record { size = w .n; is = w .is; short = w .short; room = omega arith }
 
   module _ (o : OpenOptions) (is : paperSize r ≡ openSize pool p o) where
@@ -132,8 +131,7 @@ module _ (pool : List ℕ) (p : Path) (r : Wrote) (size : ℕ) (h : r ≡ Size s
 
     pub open-ready : (out : List ℕ) → size ≤ length out → Ready pool p (openBase (o .«large_open»)) out
     open-ready out g =
-        let e : done (openBase (o .«large_open») + opening .n) ≡ done size = two-went .then in
-        let q : openBase (o .«large_open») + opening .n ≡ size = cc in
+        let q : openBase (o .«large_open») + opening .n ≡ size = done-same (two-went .then) in
         record { size = opening .n; is = opening .is; short = opening .short; room = omega arith }
 
 pub ruleset ready-laws = (close-ready, open-one, open-two, open-ready)
@@ -156,16 +154,14 @@ module _ (pool : List ℕ) (p : Path) (r : Wrote) (size : ℕ) (h : r ≡ Size s
   unfolding closeSize
   close-sized c is =
       let w : Left pool p (λ k. done (12 + k)) size = left pool p (λ k. done (12 + k)) size (sym is ∙ ap paperSize h) in
-      let e : done (12 + w .n) ≡ done size = w .then in
-      let q : 12 + w .n ≡ size = cc in
+      let q : 12 + w .n ≡ size = done-same (w .then) in
       omega (arith, path-sized pool p (w .n) (w .is) .size, close-length c path)
 
   pub open-sized : (o : OpenOptions) → paperSize r ≡ openSize pool p o → size ≡ length (openBytes o path)
   open-sized o is =
       let w = opening pool p r size h o is in
       let t = two-went pool p r size h o is in
-      let e : done (openBase (o .«large_open») + w .n) ≡ done size = t .then in
-      let q : openBase (o .«large_open») + w .n ≡ size = cc in
+      let q : openBase (o .«large_open») + w .n ≡ size = done-same (t .then) in
       omega (arith, path-sized pool p (w .n) (w .is) .size, open-length o path, base-widths (o .«large_open»))
 
 pub ruleset length-laws = (close-sized, open-sized)

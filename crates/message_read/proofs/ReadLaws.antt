@@ -10,7 +10,7 @@ use Rattle.wire.specs.Answers.{Answer, done, refused, andThen, Rule, under, ove
 use Rattle.wire.specs.declared.Refusal.{Refusal}
 use Rattle.wire.specs.declared.Counted.{Counted}
 use Rattle.wire.specs.declared.Counted.the-variants.{Count, Refused as NotCounted}
-use Rattle.wire.proofs.Rules.{rules, all-keep, all-were, same-refusal, then-stops, then-goes}
+use Rattle.wire.proofs.Rules.{rules, done-same, all-keep, all-were, same-refusal, then-stops, then-goes}
 use Rattle.epath.specs.Paths.{checkPath}
 use Rattle.connection.specs.Limits.{maxPath, maxRecord}
 use Rattle.message_read.specs.declared.MessageRequest.{MessageRequest}
@@ -82,8 +82,7 @@ module _ (s : List ℕ) (at : ℕ) where
   size-most r len is h =
       let w = all-were (under (length s) (at + 1) 1 ∷ over (2 * getD s at 0) maxPath 3 ∷ []) (done (2 * getD s at 0)) len (sym is ∙ ap paperCount h) in
       let k : 2 * getD s at 0 ≤ maxPath = w .0 .1 .0 in
-      let e : done (2 * getD s at 0) ≡ done len = w .1 in
-      let f : 2 * getD s at 0 ≡ len = cc in
+      let f : 2 * getD s at 0 ≡ len = done-same (w .1) in
       omega arith
 
   pub size-inside : (r : Counted) (len : ℕ) → paperCount r ≡ pathBytes s at → r ≡ Count len → at + 1 ≤ length s

@@ -12,7 +12,7 @@ use Rattle.wire.specs.Answers.{Answer, done, refused, paperSize, over, judged, 
 use Rattle.wire.specs.declared.Refusal.{Refusal}
 use Rattle.wire.specs.declared.Wrote.{Wrote}
 use Rattle.wire.specs.declared.Wrote.the-variants.{Size, Refused}
-use Rattle.wire.proofs.Rules.{rules, never, all-were, then-stops, then-goes, Went, then-were}
+use Rattle.wire.proofs.Rules.{rules, never, done-same, all-were, then-stops, then-goes, Went, then-were}
 use Rattle.wire.proofs.Answers.{room-kept}
 use Rattle.wire.proofs.Stores.{length-lent, sets-lent, sets-overlay}
 use Rattle.epath_sizes.specs.Segments.{encode}
@@ -57,8 +57,7 @@ unfolding routeSize
 route-sized pool p n h =
     let w : Went (pathSize pool p) (λ k. judged (over k maxPath 3 ∷ []) (done k)) n = then-were (pathSize pool p) (λ k. judged (over k maxPath 3 ∷ []) (done k)) n h in
     let k = all-were (over (w .found) maxPath 3 ∷ []) (done (w .found)) n (w .then) in
-    let e : done (w .found) ≡ done n = k .1 in
-    let q : w .found ≡ n = cc in
+    let q : w .found ≡ n = done-same (k .1) in
     record { is = w .is ∙ ap done q; short = rw (← q) (k .0 .0) }
 
 -- ---- a size that goes on from the path's

@@ -8,7 +8,7 @@ use Rattle.wire.specs.Answers.{Answer, done, refused, paperCount, over, judged,
 use Rattle.wire.specs.declared.Refusal.{Refusal}
 use Rattle.wire.specs.declared.Counted.{Counted}
 use Rattle.wire.specs.declared.Counted.the-variants.{Count, Refused}
-use Rattle.wire.proofs.Rules.{rules, all-were, then-stops, then-goes, Went, then-were}
+use Rattle.wire.proofs.Rules.{rules, done-same, all-were, then-stops, then-goes, Went, then-were}
 use Rattle.epath.specs.Paths.{checkPath}
 use Rattle.connection.specs.Limits.{maxPath}
 use Rattle.route_written.specs.Written.{writtenRoute}
@@ -42,8 +42,7 @@ unfolding writtenRoute
 taken path n h =
     let k = all-were (over (length path) maxPath 3 ∷ []) (andThen (checkPath path) (λ _. done (length path))) n h in
     let w : Went (checkPath path) (λ _. done (length path)) n = then-were (checkPath path) (λ _. done (length path)) n (k .1) in
-    let e : done (length path) ≡ done n = w .then in
-    let q : length path ≡ n = cc in
+    let q : length path ≡ n = done-same (w .then) in
     record { size = sym q; short = rw (← q) (k .0 .0) }
 
 -- ---- a size that goes on from the path's
