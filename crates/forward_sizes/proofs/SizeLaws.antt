@@ -75,7 +75,7 @@ module _ (pool : List ℕ) (p : Path) (r : Wrote) (is : paperSize r ≡ routeSiz
 
       module _ (a : ℕ) (f : v ≡ Bits a) (w : Word) (two : paperWord w ≡ parameterWord (o .«large_open») (o .«t_o_params»)) where
         second : {z : Answer ℕ} → z ≡ afterFirst → z ≡ openSize pool p o
-        second {z} e = opened (then-goes (parameterWord (o .«large_open») (o .«o_t_params»)) (λ _. afterFirst) a z (sym one ∙ ap paperWord f) e)
+        second {z} e = opened (then-goes _ _ a z (sym one ∙ ap paperWord f) e)
 
         pub open-second : (e : Refusal) → w ≡ NoWord e → refused (number e) ≡ openSize pool p o
         unfolding afterFirst
@@ -84,7 +84,7 @@ module _ (pool : List ℕ) (p : Path) (r : Wrote) (is : paperSize r ≡ routeSiz
         pub open-is : (b base : ℕ) → w ≡ Bits b → base ≡ openBase (o .«large_open») → done (base + n) ≡ openSize pool p o
         unfolding afterFirst
         open-is b base g q =
-            second (then-goes (parameterWord (o .«large_open») (o .«t_o_params»)) (λ _. done (openBase (o .«large_open») + n)) b (done (base + n)) (sym two ∙ ap paperWord g) (rw q))
+            second (then-goes _ _ b (done (base + n)) (sym two ∙ ap paperWord g) (rw q))
 
 pub ruleset size-laws = (close-stops, close-is, close-fits, open-stops, open-fits, open-first, open-second, open-is)
 
@@ -93,12 +93,12 @@ pub ruleset size-laws = (close-stops, close-is, close-fits, open-stops, open-fit
 pub word-was : (large : Bool) (q : ConnectionParameters) (w : ℕ) → parameterWord large q ≡ done w → parameterWord large q ≡ done (wordOf large q)
 unfolding parameterWord
 word-was large q w h =
-    let k = all-were (over (q .«connection_size») (sizeLimit large) 3 ∷ []) (done (wordOf large q)) w h in
+    let k = all-were _ _ w h in
     h ∙ sym (k .1)
 
 pub word-small-size : (large : Bool) (q : ConnectionParameters) (w : ℕ) → parameterWord large q ≡ done w → q .«connection_size» ≤ sizeLimit large
 unfolding parameterWord
-word-small-size large q w h = all-were (over (q .«connection_size») (sizeLimit large) 3 ∷ []) (done (wordOf large q)) w h .0 .0
+word-small-size large q w h = all-were _ _ w h .0 .0
 
 -- a request that was sized and has its room: its path is ready to be written
 module _ (pool : List ℕ) (p : Path) (r : Wrote) (size : ℕ) (h : r ≡ Size size) where
@@ -118,10 +118,10 @@ module _ (pool : List ℕ) (p : Path) (r : Wrote) (size : ℕ) (h : r ≡ Size s
     opening = left pool p (λ k. andThen (parameterWord (o .«large_open») (o .«o_t_params»)) (λ _. two k)) size (sym is ∙ ap paperSize h)
 
     one-went : Went (parameterWord (o .«large_open») (o .«o_t_params»)) (λ _. two (opening .n)) size
-    one-went = then-were (parameterWord (o .«large_open») (o .«o_t_params»)) (λ _. two (opening .n)) size (opening .then)
+    one-went = then-were _ _ size (opening .then)
 
     two-went : Went (parameterWord (o .«large_open») (o .«t_o_params»)) (λ _. done (openBase (o .«large_open») + opening .n)) size
-    two-went = then-were (parameterWord (o .«large_open») (o .«t_o_params»)) (λ _. done (openBase (o .«large_open») + opening .n)) size (one-went .then)
+    two-went = then-were _ _ size (one-went .then)
 
     pub open-one : parameterWord (o .«large_open») (o .«o_t_params») ≡ done (wordOf (o .«large_open») (o .«o_t_params»))
     open-one = word-was (o .«large_open») (o .«o_t_params») (one-went .found) (one-went .is)

@@ -1,17 +1,17 @@
 -- The sizes' ends, and what a size that was answered says of the request. Assumes nothing.
 use Prim.Native.Nat.{ℕ, _+_, _-_, _%_, _≤_, _<_}
 use mathlib.Core.Path.{_≡_, sym, ap, _∙_}
-use mathlib.Core.List.{List, [], _∷_}
+use mathlib.Core.List.{List}
 use native.Mathlib.Omega.{arith}
 use lib.ListN.{length}
 use mir.Val.{Fits}
 use mir.Syntax.{w64}
 use Rattle.wire.specs.Refusals.{number}
-use Rattle.wire.specs.Answers.{done, refused, paperSize, over, withinLimit}
+use Rattle.wire.specs.Answers.{done, refused, paperSize, withinLimit}
 use Rattle.wire.specs.declared.Refusal.{Refusal}
 use Rattle.wire.specs.declared.Wrote.{Wrote}
 use Rattle.wire.specs.declared.Wrote.the-variants.{Size, Refused}
-use Rattle.wire.proofs.Rules.{rules, all-were, within-was}
+use Rattle.wire.proofs.Rules.{rules, within-was}
 use Rattle.connection_words.proofs.Lengths.{message-length, send-length}
 use Rattle.epath_sizes.specs.Segments.{encode}
 use Rattle.epath_sizes.specs.Lists.{segsOf}

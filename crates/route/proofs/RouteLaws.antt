@@ -28,12 +28,12 @@ use Rattle.route.specs.Routes.{routeSize, Ready, Routed}
 module _ (pool : List ℕ) (p : Path) (r : Wrote) (is : paperSize r ≡ pathSize pool p) where
   pub route-stops : (e : Refusal) → r ≡ Refused e → refused (number e) ≡ routeSize pool p
   unfolding routeSize
-  route-stops e h = then-stops (pathSize pool p) _ (number e) (sym is ∙ ap paperSize h)
+  route-stops e h = then-stops _ _ (number e) (sym is ∙ ap paperSize h)
 
   module _ (n : ℕ) (h : r ≡ Size n) where
     judge : {z : Answer ℕ} → z ≡ judged (over n maxPath 3 ∷ []) (done n) → z ≡ routeSize pool p
     unfolding routeSize
-    judge {z} e = then-goes (pathSize pool p) (λ k. judged (over k maxPath 3 ∷ []) (done k)) n z (sym is ∙ ap paperSize h) e
+    judge {z} e = then-goes _ _ n z (sym is ∙ ap paperSize h) e
 
     pub route-long : maxPath < n → refused 3 ≡ routeSize pool p
     route-long g = judge (search rules)
@@ -55,18 +55,18 @@ pub record RouteSized (pool : List ℕ) (p : Path) (n : ℕ) : Type 0 where
 pub route-sized : (pool : List ℕ) (p : Path) (n : ℕ) → routeSize pool p ≡ done n → RouteSized pool p n
 unfolding routeSize
 route-sized pool p n h =
-    let w : Went (pathSize pool p) (λ k. judged (over k maxPath 3 ∷ []) (done k)) n = then-were (pathSize pool p) (λ k. judged (over k maxPath 3 ∷ []) (done k)) n h in
-    let k = all-were (over (w .found) maxPath 3 ∷ []) (done (w .found)) n (w .then) in
+    let w : Went (pathSize pool p) (λ k. judged (over k maxPath 3 ∷ []) (done k)) n = then-were _ _ n h in
+    let k = all-were _ _ n (w .then) in
     let q : w .found ≡ n = done-same (k .1) in
     record { is = w .is ∙ ap done q; short = rw (← q) (k .0 .0) }
 
 -- ---- a size that goes on from the path's
 module _ (pool : List ℕ) (p : Path) (r : Wrote) (is : paperSize r ≡ routeSize pool p) (f : ℕ → Answer ℕ) where
   pub from-stops : (e : Refusal) → r ≡ Refused e → refused (number e) ≡ andThen (routeSize pool p) f
-  from-stops e h = then-stops (routeSize pool p) f (number e) (sym is ∙ ap paperSize h)
+  from-stops e h = then-stops _ _ (number e) (sym is ∙ ap paperSize h)
 
   pub from-goes : (n : ℕ) → r ≡ Size n → {z : Answer ℕ} → z ≡ f n → z ≡ andThen (routeSize pool p) f
-  from-goes n h {z} e = then-goes (routeSize pool p) f n z (sym is ∙ ap paperSize h) e
+  from-goes n h {z} e = then-goes _ _ n z (sym is ∙ ap paperSize h) e
 
 pub from-short : (pool : List ℕ) (p : Path) (r : Wrote) (n : ℕ) → paperSize r ≡ routeSize pool p → r ≡ Size n → n ≤ maxPath
 from-short pool p r n is h = route-sized pool p n (sym is ∙ ap paperSize h) .short
@@ -80,7 +80,7 @@ pub record Left (pool : List ℕ) (p : Path) (f : ℕ → Answer ℕ) (size : �
 
 pub left : (pool : List ℕ) (p : Path) (f : ℕ → Answer ℕ) (size : ℕ) → andThen (routeSize pool p) f ≡ done size → Left pool p f size
 left pool p f size h =
-    let w : Went (routeSize pool p) f size = then-were (routeSize pool p) f size h in
+    let w : Went (routeSize pool p) f size = then-were _ _ size h in
     let r : RouteSized pool p (w .found) = route-sized pool p (w .found) (w .is) in
     record { n = w .found; is = r .is; short = r .short; then = w .then }
 
