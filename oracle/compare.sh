@@ -3,6 +3,7 @@
 #   sh oracle/compare.sh PAGES [--seed S] [--count N] [--answers PROGRAM] [--build FOLDER] [--refused]
 #   sh oracle/compare.sh PAGES --record [FOLDER]      writes FOLDER/stdin and FOLDER/stdout (default: crates/answers)
 #   sh oracle/compare.sh PAGES --recorded [FOLDER]    asks the crate again for what stands there
+#   sh oracle/compare.sh PAGES --cards                prints the crate's answers to document 01's cards: crates/cards/stdin
 # --refused shows what the crate did with the replies and bodies that we refuse.
 # The last line is `N compared, 0 differ`. Read oracle/README.md.
 set -eu
@@ -22,6 +23,7 @@ while [ $# -gt 0 ]; do
     --record | --recorded)
         mode=$1
         case ${2:-} in '' | --*) ;; *) folder=$2; shift ;; esac ;;
+    --cards) mode=$1 ;;
     --seed) seed=${2:?a number}; shift ;;
     --count) count=${2:?a number}; shift ;;
     --answers) answers=${2:?a program}; shift ;;
@@ -34,6 +36,9 @@ done
 sh "$here/build.sh" "$pages" "$build"
 if [ "$mode" = compare ]; then
     exec "$build/target/release/compare" --seed "$seed" --count "$count" --answers "$answers" ${refused:+"$refused"}
+fi
+if [ "$mode" = --cards ]; then
+    exec "$build/target/release/cards" --record
 fi
 mkdir -p "$folder"
 exec "$build/target/release/compare" "$mode" "$folder"

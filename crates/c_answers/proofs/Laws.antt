@@ -55,13 +55,13 @@ pub count-refused : (w : Counted) (e : Refusal) (r : ℕ) → w ≡ NotCounted e
 count-refused w e r h f = f ∙ sym (ap (λ (x : Counted). code (paperCount x)) h)
 
 -- what another function answers, handed on as a number
-pub size-told : (w : Wrote) (x : Answer ℕ) (r : ℕ) → paperSize w ≡ x → r ≡ code (paperSize w) → r ≡ code x
-size-told w x r h e = e ∙ ap code h
+pub code-told : (x y : Answer ℕ) (r : ℕ) → r ≡ code x → x ≡ y → r ≡ code y
+code-told x y r e h = e ∙ ap code h
 
-pub count-told : (w : Counted) (x : Answer ℕ) (r : ℕ) → paperCount w ≡ x → r ≡ code (paperCount w) → r ≡ code x
-count-told w x r h e = e ∙ ap code h
+pub code-done : (n : ℕ) (y : Answer ℕ) → done n ≡ y → n ≡ code y
+code-done n y h = ap code h
 
-pub ruleset told-laws = (size-told, count-told)
+pub ruleset told-laws = (code-told, code-done)
 
 pub ruleset answer-laws = (refusal-code, refusal-fits, size-done, size-refused, count-done, count-refused)
 

@@ -26,7 +26,7 @@ use Rattle.connection_words.specs.declared.TransportRead.{TransportRead}
 use Rattle.connection_words.specs.declared.TransportRead.the-variants.{Found as FoundTransport, Refused as NoTransport}
 use Rattle.connection_words.proofs.Words.{WordWas, parameters-written-of-read}
 use Rattle.forward_sizes.specs.Sizes.{openBase}
-use Rattle.forward_encode.specs.Over.{openAfter, openOverSize}
+use Rattle.open_encode.specs.Over.{openAfter, openOverSize}
 use Rattle.route_written.specs.Written.{writtenRoute}
 use Rattle.route_written.proofs.WrittenLaws.{over-stops, over-goes}
 use Rattle.c_answers.specs.Codes.{code}

@@ -3,13 +3,13 @@
 use crate::Words;
 use c_answers::refusal_answer;
 use c_answers::size_answer;
+use close_encode::write_forward_close_over;
 use connection::ForwardCloseRequest;
 use connection::OpenOptions;
 use connection_words::ParametersRead;
 use connection_words::TransportRead;
 use connection_words::decode_parameters;
-use forward_encode::write_forward_close_over;
-use forward_encode::write_forward_open_over;
+use open_encode::write_forward_open_over;
 use route_written::written_route;
 use transport_words::transport_of;
 use wire::Counted;
@@ -17,7 +17,7 @@ ghost use mathlib.Core.Path.{_≡_};
 ghost use lib.ListN.{length};
 ghost use Rattle.wire.specs.Answers.{withRoom, written};
 ghost use Rattle.connection_words.specs.Requests.{openBytes, closeBytes};
-ghost use Rattle.forward_encode.specs.Over.{closeOverSize};
+ghost use Rattle.close_encode.specs.Over.{closeOverSize};
 ghost use Rattle.c_answers.specs.Codes.{code};
 ghost use Rattle.c_forwards.specs.Writes.{closeOf, paperWords, readWords, openGiven, optionsOf};
 

@@ -1,5 +1,5 @@
 // Rows into bytes: each row is judged and sized, and then stored where the one before it ends.
-use crate::Row;
+use crate::SegmentRow;
 use epath_encode::write_segment;
 use epath_sizes::PortSegment;
 use epath_sizes::Segment;
@@ -11,19 +11,19 @@ ghost use mathlib.Core.Path.{_≡_};
 ghost use Prim.Native.Nat.{_+_, _*_, _≤_};
 ghost use lib.ListN.{length};
 ghost use lib.Seq.{sets};
-ghost use Rattle.wire.specs.Answers.{paperSize, withRoom, written, Put};
+ghost use Rattle.wire.specs.Answers.{paperSize, Put};
 ghost use Rattle.epath_sizes.specs.Segments.{encodeSeg, encode};
 ghost use Rattle.epath_sizes.specs.Lists.{meaning, segs};
 ghost use Rattle.c_paths.specs.Kinds.{rowNumbers};
-ghost use Rattle.c_paths.specs.Rows.{rowAt, mostOf, segmentOf, rowSize, rowsSize, slotsIn, Ready, AllReady};
+ghost use Rattle.c_paths.specs.Rows.{segmentRowAt, mostOf, segmentOf, segmentRowSize, rowsSize, slotsIn, RowReady, RowsReady};
 
 // The row at an index.
-fn row_at(segments: &[u32], i: usize) -> Row
+fn row_at(segments: &[u32], i: usize) -> SegmentRow
     requires { ⌜ rowNumbers * i + rowNumbers ≤ length (now segments) ⌝ }
-    ensures { λ r. ⌜ r ≡ rowAt (now (segments .entry)) (rowNumbers * i) ⌝ }
+    ensures { λ r. ⌜ r ≡ segmentRowAt (now (segments .entry)) (rowNumbers * i) ⌝ }
 {
     let at = crate::ROW * i;
-    Row {
+    SegmentRow {
         kind: segments[at],
         number: segments[at + 1],
         start: segments[at + 2],
@@ -45,7 +45,7 @@ fn most_number(kind: u32) -> u32
 }
 
 // The segment of a row that was judged.
-fn segment_of(row: Row) -> Segment
+fn segment_of(row: SegmentRow) -> Segment
     requires { ⌜ row .number ≤ mostOf (row .kind) ⌝ }
     ensures { λ r. ⌜ r ≡ segmentOf row ⌝ }
 {
@@ -78,8 +78,8 @@ fn segment_of(row: Row) -> Segment
 }
 
 // A row's refusal, or how many bytes its segment takes.
-fn row_size(row: Row, pool: &[u8]) -> Wrote
-    ensures { λ r. ⌜ paperSize r ≡ rowSize (now (pool .entry)) row ⌝ }
+fn row_size(row: SegmentRow, pool: &[u8]) -> Wrote
+    ensures { λ r. ⌜ paperSize r ≡ segmentRowSize (now (pool .entry)) row ⌝ }
 {
     if crate::PORT < row.kind {
         return Wrote::Refused(Refusal::Code);
@@ -115,8 +115,8 @@ pub(crate) fn rows_size(segments: &[u32], pool: &[u8]) -> Wrote
 }
 
 // Stores the segment of a row that was sized at the front of out, which has room, and says how many bytes.
-fn put_row(row: Row, pool: &[u8], out: &mut [u8]) -> usize
-    requires { ⌜ Ready (now pool) row (length (now out)) ⌝ }
+fn put_row(row: SegmentRow, pool: &[u8], out: &mut [u8]) -> usize
+    requires { ⌜ RowReady (now pool) row (length (now out)) ⌝ }
     ensures { λ r. ⌜ Put (encodeSeg (meaning (now (pool .entry)) (segmentOf row))) (now (out .entry)) r (now (out .exit)) ⌝ }
 {
     match write_segment(segment_of(row), pool, out) {
@@ -127,8 +127,8 @@ fn put_row(row: Row, pool: &[u8], out: &mut [u8]) -> usize
 }
 
 // Rows that were sized: each goes into the rest of out.
-fn put_rows(segments: &[u32], pool: &[u8], out: &mut [u8])
-    requires { ⌜ AllReady (now pool) (now segments) (length (now out)) ⌝ }
+pub(crate) fn put_rows(segments: &[u32], pool: &[u8], out: &mut [u8])
+    requires { ⌜ RowsReady (now pool) (now segments) (length (now out)) ⌝ }
     ensures { λ _. ⌜ now (out .exit) ≡ sets (now (out .entry)) 0 (encode (segs (now (pool .entry)) (slotsIn (now (segments .entry))))) ⌝ }
 {
     let count = segments.len() / crate::ROW;
@@ -138,22 +138,5 @@ fn put_rows(segments: &[u32], pool: &[u8], out: &mut [u8])
         let n = put_row(row_at(segments, i), pool, &mut out[at..]);
         at += n;
         i += 1;
-    }
-}
-
-// Writes the path of these rows at the front of out, or changes nothing.
-pub(crate) fn write_rows(segments: &[u32], pool: &[u8], out: &mut [u8]) -> Wrote
-    ensures answer { λ r. ⌜ paperSize r ≡ withRoom (rowsSize (now (pool .entry)) (now (segments .entry))) (length (now (out .entry))) ⌝ }
-    ensures bytes { λ _. ⌜ now (out .exit) ≡ written (withRoom (rowsSize (now (pool .entry)) (now (segments .entry))) (length (now (out .entry)))) (encode (segs (now (pool .entry)) (slotsIn (now (segments .entry))))) (now (out .entry)) ⌝ }
-{
-    match rows_size(segments, pool) {
-        Wrote::Refused(e) => Wrote::Refused(e),
-        Wrote::Size(size) => {
-            if out.len() < size {
-                return Wrote::Refused(Refusal::Room);
-            }
-            put_rows(segments, pool, out);
-            Wrote::Size(size)
-        }
     }
 }

@@ -45,25 +45,29 @@ use Rattle.connection_words.proofs.Exact as ConnectionWords
 use Rattle.transport_words.proofs.transport_class_trigger
 use Rattle.transport_words.proofs.transport_of
 use Rattle.transport_words.proofs.Exact as TransportWords
+use Rattle.triads.proofs.put_triad
+use Rattle.triads.proofs.Exact as Triads
 use Rattle.route.proofs.route_size
 use Rattle.route.proofs.Exact as Route
 use Rattle.forward_sizes.proofs.default_connection_path
 use Rattle.forward_sizes.proofs.forward_open_size
 use Rattle.forward_sizes.proofs.forward_close_size
 use Rattle.forward_sizes.proofs.Exact as ForwardSizes
-use Rattle.forward_encode.proofs.write_forward_open
-use Rattle.forward_encode.proofs.write_forward_close
-use Rattle.forward_encode.proofs.write_forward_open_over
-use Rattle.forward_encode.proofs.write_forward_close_over
-use Rattle.forward_encode.proofs.Exact as ForwardEncode
+use Rattle.open_encode.proofs.write_forward_open
+use Rattle.open_encode.proofs.write_forward_open_over
+use Rattle.open_encode.proofs.Exact as OpenEncode
+use Rattle.close_encode.proofs.write_forward_close
+use Rattle.close_encode.proofs.write_forward_close_over
+use Rattle.close_encode.proofs.Exact as CloseEncode
 use Rattle.request_sizes.proofs.message_size
 use Rattle.request_sizes.proofs.unconnected_send_size
 use Rattle.request_sizes.proofs.Exact as RequestSizes
-use Rattle.request_encode.proofs.write_message
-use Rattle.request_encode.proofs.write_unconnected_send
-use Rattle.request_encode.proofs.write_message_over
-use Rattle.request_encode.proofs.write_unconnected_send_over
-use Rattle.request_encode.proofs.Exact as RequestEncode
+use Rattle.message_encode.proofs.write_message
+use Rattle.message_encode.proofs.write_message_over
+use Rattle.message_encode.proofs.Exact as MessageEncode
+use Rattle.send_encode.proofs.write_unconnected_send
+use Rattle.send_encode.proofs.write_unconnected_send_over
+use Rattle.send_encode.proofs.Exact as SendEncode
 use Rattle.message_read.proofs.read_message
 use Rattle.message_read.proofs.first_byte
 use Rattle.message_read.proofs.route_at
@@ -110,6 +114,7 @@ use Rattle.c_answers.proofs.count_answer
 use Rattle.c_answers.proofs.fill
 use Rattle.c_answers.proofs.Exact as CAnswers
 use Rattle.route_written.proofs.written_route
+use Rattle.route_written.proofs.written_record
 use Rattle.route_written.proofs.Exact as RouteWritten
 use Rattle.c_paths.proofs.bark_path_size
 use Rattle.c_paths.proofs.bark_write_path
@@ -203,24 +208,28 @@ pub record Claims : Type 2 where
   -- transport_words
   pub transport-class-trigger : Exact transport_class_trigger.ended (λ _. transport_class_trigger.clauses)
   pub transport-of : Exact transport_of.ended (λ _. transport_of.clauses)
+  -- triads
+  pub put-triad : Exact put_triad.ended (λ _. put_triad.clauses)
   -- route
   pub route-size : Exact route_size.ended (λ _. route_size.clauses)
   -- forward_sizes
   pub default-connection-path : Exact default_connection_path.ended (λ _. default_connection_path.clauses)
   pub forward-open-size : Exact forward_open_size.ended (λ _. forward_open_size.clauses)
   pub forward-close-size : Exact forward_close_size.ended (λ _. forward_close_size.clauses)
-  -- forward_encode
+  -- open_encode
   pub write-forward-open : Exact write_forward_open.ended (λ _. write_forward_open.clauses)
-  pub write-forward-close : Exact write_forward_close.ended (λ _. write_forward_close.clauses)
   pub write-forward-open-over : Exact write_forward_open_over.ended (λ _. write_forward_open_over.clauses)
+  -- close_encode
+  pub write-forward-close : Exact write_forward_close.ended (λ _. write_forward_close.clauses)
   pub write-forward-close-over : Exact write_forward_close_over.ended (λ _. write_forward_close_over.clauses)
   -- request_sizes
   pub message-size : Exact message_size.ended (λ _. message_size.clauses)
   pub unconnected-send-size : Exact unconnected_send_size.ended (λ _. unconnected_send_size.clauses)
-  -- request_encode
+  -- message_encode
   pub write-message : Exact write_message.ended (λ _. write_message.clauses)
-  pub write-unconnected-send : Exact write_unconnected_send.ended (λ _. write_unconnected_send.clauses)
   pub write-message-over : Exact write_message_over.ended (λ _. write_message_over.clauses)
+  -- send_encode
+  pub write-unconnected-send : Exact write_unconnected_send.ended (λ _. write_unconnected_send.clauses)
   pub write-unconnected-send-over : Exact write_unconnected_send_over.ended (λ _. write_unconnected_send_over.clauses)
   -- message_read
   pub read-message : Exact read_message.ended (λ _. read_message.clauses)
@@ -269,6 +278,7 @@ pub record Claims : Type 2 where
   pub fill : Exact fill.ended (λ _. fill.clauses)
   -- route_written
   pub written-route : Exact written_route.ended (λ _. written_route.clauses)
+  pub written-record : Exact written_record.ended (λ _. written_record.clauses)
   -- c_paths
   pub bark-path-size : Exact bark_path_size.ended (λ _. bark_path_size.clauses)
   pub bark-write-path : Exact bark_write_path.ended (λ _. bark_write_path.clauses)
@@ -351,20 +361,21 @@ claims =
       decode-parameters = ConnectionWords.decode-parameters-exact;
       transport-class-trigger = TransportWords.transport-class-trigger-exact;
       transport-of = TransportWords.transport-of-exact;
+      put-triad = Triads.put-triad-exact;
       route-size = Route.route-size-exact;
       default-connection-path = ForwardSizes.default-connection-path-exact;
       forward-open-size = ForwardSizes.forward-open-size-exact;
       forward-close-size = ForwardSizes.forward-close-size-exact;
-      write-forward-open = ForwardEncode.write-forward-open-exact;
-      write-forward-close = ForwardEncode.write-forward-close-exact;
-      write-forward-open-over = ForwardEncode.write-forward-open-over-exact;
-      write-forward-close-over = ForwardEncode.write-forward-close-over-exact;
+      write-forward-open = OpenEncode.write-forward-open-exact;
+      write-forward-open-over = OpenEncode.write-forward-open-over-exact;
+      write-forward-close = CloseEncode.write-forward-close-exact;
+      write-forward-close-over = CloseEncode.write-forward-close-over-exact;
       message-size = RequestSizes.message-size-exact;
       unconnected-send-size = RequestSizes.unconnected-send-size-exact;
-      write-message = RequestEncode.write-message-exact;
-      write-unconnected-send = RequestEncode.write-unconnected-send-exact;
-      write-message-over = RequestEncode.write-message-over-exact;
-      write-unconnected-send-over = RequestEncode.write-unconnected-send-over-exact;
+      write-message = MessageEncode.write-message-exact;
+      write-message-over = MessageEncode.write-message-over-exact;
+      write-unconnected-send = SendEncode.write-unconnected-send-exact;
+      write-unconnected-send-over = SendEncode.write-unconnected-send-over-exact;
       read-message = MessageRead.read-message-exact;
       first-byte = MessageRead.first-byte-exact;
       route-at = MessageRead.route-at-exact;
@@ -396,6 +407,7 @@ claims =
       count-answer = CAnswers.count-answer-exact;
       fill = CAnswers.fill-exact;
       written-route = RouteWritten.written-route-exact;
+      written-record = RouteWritten.written-record-exact;
       bark-path-size = CPaths.bark-path-size-exact;
       bark-write-path = CPaths.bark-write-path-exact;
       bark-check-path = CPaths.bark-check-path-exact;

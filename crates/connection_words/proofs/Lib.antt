@@ -1,5 +1,4 @@
 pub mod FieldLaws
 pub mod Words
 pub mod Lengths
-pub mod Triads
 pub mod Exact

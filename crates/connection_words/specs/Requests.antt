@@ -35,7 +35,7 @@ parameterWidth true = 4
 abbrev pub openIds : ℕ → ℕ → ℕ → ℕ → List Field
 openIds priority ticks toTarget toOriginator = byte priority ∷ byte ticks ∷ num 4 toTarget ∷ num 4 toOriginator ∷ []
 
--- the first 22 bytes: up to the reserved three
+-- the first 22 bytes, the reserved three their last
 abbrev pub openHead : OpenOptions → List Field
 openHead o =
     openIds (o .«priority_tick_time») (o .«timeout_ticks») (o .«o_t_connection_id») (o .«t_o_connection_id»)

@@ -18,6 +18,13 @@ ghost use Rattle.dump_text.specs.Text.{maxText, rowAt, line, linesFrom, 
 // Bytes of the longest text, and more: no message has more than MAX_ROWS rows, no line more than 21 bytes. Its twin is in specs/Text.antt.
 pub const MAX_TEXT: usize = 344064;
 
+// Holds the constant to its twin.
+fn max_text() -> usize
+    ensures { λ r. ⌜ r ≡ maxText ⌝ }
+{
+    MAX_TEXT
+}
+
 // Numbers of the rows that any message can have.
 const MAX_NUMBERS: usize = nested::ROW * nested::MAX_ROWS;
 

@@ -1,7 +1,7 @@
 -- What a user may rely on of written paths, said of what the functions answer and leave: the front, joining. Assumes nothing.
 use Prim.Native.Nat.{ℕ, _+_, _≤_}
-use mathlib.Core.Path.{_≡_, refl, ap, _∙_}
-use mathlib.Core.List.{List, [], _∷_, _++_}
+use mathlib.Core.Path.{_≡_, refl, sym, ap, _∙_}
+use mathlib.Core.List.{List, [], _∷_, _++_, append-assoc, append-nil}
 use lib.ListN.{length, take, drop}
 use lib.Seq.{take-append-seam}
 use Rattle.wire.specs.Parts.{overlay}
@@ -44,6 +44,13 @@ segs-append pool (x ∷ a) b = ap (λ (l : List Seg). meaning pool (x .segment) 
 
 pub encode-append : (a b : List Seg) → encode (a ++ b) ≡ encode a ++ encode b
 encode-append a b = joined-append encodeSeg a b
+
+-- grouping and unit, of the bytes
+pub path-grouping : (a b c : List Seg) → (encode a ++ encode b) ++ encode c ≡ encode (a ++ (b ++ c))
+path-grouping a b c = append-assoc (encode a) (encode b) (encode c) ∙ ap (λ (l : List ℕ). encode a ++ l) (sym (encode-append b c)) ∙ sym (encode-append a (b ++ c))
+
+pub path-unit : (a : List Seg) → (encode [] ++ encode a ≡ encode a) × (encode a ++ encode [] ≡ encode a)
+path-unit a = (refl, append-nil (encode a))
 
 module _ (pool : List ℕ) (p q r : Path) (few : r .count ≤ maxSegments) (is : slotsOf r ≡ slotsOf p ++ slotsOf q) where
   pub joined-bytes : encode (segsOf pool r) ≡ encode (segsOf pool p) ++ encode (segsOf pool q)

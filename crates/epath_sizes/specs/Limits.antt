@@ -1,4 +1,4 @@
--- The numbers that bound paths and the codes that make them up, each once; `src/lib.rt` has each as a `const`.
+-- The numbers that bound paths and the codes that make them up, each once; `src/lib.rt` has each as a `const`, but for `mostBytes` and `maxPlace`, which the code does not need.
 -- Limits: document 01. Codes: CIP Volume 1, Appendix C-1.4. Assumes nothing: these are definitions.
 use Prim.Native.Nat.{ℕ}
 

@@ -23,11 +23,12 @@ logical code v =
     (pick (leb v 65535) ((code + 1) ∷ 0 ∷ lowFirst 2 v)
     ((code + 2) ∷ 0 ∷ lowFirst 4 v))
 
--- the zero that makes n even
+-- a zero where the remainder by 2 is not 0
 abbrev pub padOf : ℕ → List ℕ
 padOf zero = []
 padOf (suc r) = 0 ∷ []
 
+-- the zero that makes n even
 abbrev pub pad : ℕ → List ℕ
 pad n = padOf (n % 2)
 

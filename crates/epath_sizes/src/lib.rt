@@ -3,6 +3,9 @@ mod sizes; // sizes.rt: how many bytes segments and lists take
 
 pub use sizes::path_size;
 pub use sizes::segment_size;
+ghost use mathlib.Core.Path.{_≡_};
+ghost use mathlib.Core.List.{[], _∷_};
+ghost use Rattle.epath_sizes.specs.Segments.{class, instance, encode};
 
 // ---- limits and codes, each beside its twin in specs/Limits.antt; the writer, epath_encode, and the reader, epath, use them too
 
@@ -41,6 +44,13 @@ pub const SYMBOL: u8 = 0x91;
 
 // The path for an Unconnected Send: class 6, instance 1.
 pub const EPATH_CONNECTION_MANAGER: [u8; 4] = [0x20, 0x06, 0x24, 0x01];
+
+// Holds the constant to what it means.
+fn connection_manager() -> [u8; 4]
+    ensures { λ r. ⌜ r ≡ encode (class 6 ∷ instance 1 ∷ []) ⌝ }
+{
+    EPATH_CONNECTION_MANAGER
+}
 
 // ---- the list
 

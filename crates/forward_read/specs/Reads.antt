@@ -18,7 +18,7 @@ use Rattle.forward_read.specs.declared.OpenRead.the-variants.{Found as F
 use Rattle.forward_read.specs.declared.CloseRead.{CloseRead}
 use Rattle.forward_read.specs.declared.CloseRead.the-variants.{Found as FoundClose, Refused as NoClose}
 
--- ---- Forward Open (3-5.5.2): 22 bytes up to the reserved three, each direction's packet interval and parameters, class and trigger, path
+-- ---- Forward Open (3-5.5.2): 22 bytes, the reserved three their last, each direction's packet interval and parameters, class and trigger, path
 
 -- the record, and where its path starts and how many bytes that has
 pub data Opened : Type 0 where

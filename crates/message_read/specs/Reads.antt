@@ -16,7 +16,8 @@ use Rattle.message_read.specs.declared.Judged.the-variants.{Kept, Refuse
 
 -- ---- what requests share
 
--- the first byte of a Connection Manager's request: tick time and priority in the low four bits, and above them reserved ones
+-- the first byte of a Connection Manager's request: tick time in the low four bits; those above have to be 0 (in the standard they are priority, of
+-- which 1 is reserved, and reserved bits)
 abbrev pub mostTicks : ℕ
 mostTicks = 15
 

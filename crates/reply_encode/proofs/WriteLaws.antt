@@ -18,7 +18,6 @@ use Rattle.connection.specs.declared.ForwardCloseSuccess.{ForwardCloseSuccess}
 use Rattle.connection.specs.declared.ForwardRequestFail.{ForwardRequestFail}
 use Rattle.connection.specs.declared.RemainingPathSize.the-variants.{Absent as NoSize, Words}
 use Rattle.connection_words.specs.Requests.{triad}
-use Rattle.connection_words.proofs.Triads.{triad-put}
 use Rattle.reply_header.specs.Headers.{extendedFields, headerFields}
 use Rattle.reply_header.specs.declared.ExtendedStatus.{ExtendedStatus}
 use Rattle.reply_header.specs.declared.ExtendedStatus.the-variants.{Absent as NoWord, Word}
@@ -34,18 +33,13 @@ module _ (old : List ℕ) (at : ℕ) where
       let g : a ≡ sets old at (laid (num 4 x ∷ [])) = laid-more [] (num 4 x) old old a at at refl (omega arith) e in
       laid-more (num 4 x ∷ []) (num 4 y) old a b at (at + 4) g (omega arith) f
 
-  pub triad-stored : (serial vendor originator : ℕ) (a b c : List ℕ) → a ≡ sets old at (lowFirst 2 serial) → b ≡ sets a (at + 2) (lowFirst 2 vendor)
-      → c ≡ sets b (at + 4) (lowFirst 4 originator) → c ≡ withFields old at (triad serial vendor originator)
-  unfolding withFields
-  triad-stored serial vendor originator a b c e f g = triad-put old at serial vendor originator a b c e f g
-
   pub app-put : (app a b : List ℕ) → a ≡ sets old at ((length app / 2) ∷ 0 ∷ []) → b ≡ sets a (at + 2) app → b ≡ sets (withFields old at (appFields app)) (at + 2) app
   unfolding withFields
   app-put app a b e f = f ∙ rw e
 
 -- ---- success
 pub open-fields : (o : ForwardOpenSuccess) (old a b c : List ℕ) → a ≡ withFields old 4 (bothWays (o .«o_t_connection_id») (o .«t_o_connection_id»))
-    → b ≡ withFields a 12 (triad (o .«connection_serial_number») (o .«originator_vendor_id») (o .«originator_serial_number»))
+    → b ≡ sets a 12 (laid (triad (o .«connection_serial_number») (o .«originator_vendor_id») (o .«originator_serial_number»)))
     → c ≡ withFields b 20 (bothWays (o .«o_t_api») (o .«t_o_api»)) → c ≡ withFields old 4 (openSuccessFields o)
 unfolding withFields
 open-fields o old a b c e f g = g ∙ rw (f, e)
@@ -56,7 +50,7 @@ module _ (service : ℕ) (app old a : List ℕ) (e : a ≡ sets old 0 (service �
   unfolding withFields openReplyBytes
   open-put o b c f g = g ∙ rw (f, e)
 
-  pub close-put : (m : ForwardCloseSuccess) (b c : List ℕ) → b ≡ withFields a 4 (closeSuccessFields m) → c ≡ sets (withFields b 12 (appFields app)) closeSuccessBase app
+  pub close-put : (m : ForwardCloseSuccess) (b c : List ℕ) → b ≡ sets a 4 (laid (closeSuccessFields m)) → c ≡ sets (withFields b 12 (appFields app)) closeSuccessBase app
       → c ≡ sets old 0 (closeReplyBytes service m app)
   unfolding withFields closeReplyBytes
   close-put m b c f g = g ∙ rw (f, e)
@@ -78,9 +72,6 @@ module _ (service : ℕ) (s : Status) (old : List ℕ) where
         most NoWord = omega arith
         most (Word w) = omega arith
 
-    pub failure-place : at ≤ 1000
-    failure-place = omega (arith, short)
-
     pub failure-fits : Fits w64 (at + 8)
     failure-fits = record { fits = omega (arith, short) }
 
@@ -96,13 +87,11 @@ module _ (service : ℕ) (s : Status) (old : List ℕ) where
           ∙ sets-append old front rest 0
           ∙ ap (λ (l : List ℕ). sets old 0 l) (sym (joined-append bytesOf (headerFields service s) (failureFields f)))
 
-      module _ (b : List ℕ) (e : b ≡ withFields a at (triad (f .«connection_serial_number») (f .«originator_vendor_id») (f .«originator_serial_number»))) where
+      module _ (b : List ℕ) (e : b ≡ sets a at (laid (triad (f .«connection_serial_number») (f .«originator_vendor_id») (f .«originator_serial_number»)))) where
         pub failure-bare : f .«remaining_path_size» ≡ NoSize → b ≡ sets old 0 (failureBytes service s f)
-        unfolding withFields
         failure-bare h = behind b (e ∙ rw h)
 
         pub failure-words : (w : ℕ) (c : List ℕ) → f .«remaining_path_size» ≡ Words w → c ≡ set b (at + 8) w → c ≡ sets old 0 (failureBytes service s f)
-        unfolding withFields
         failure-words w c h g =
             let fs : List Field = triad (f .«connection_serial_number») (f .«originator_vendor_id») (f .«originator_serial_number») in
             behind c (laid-more fs (byte w) a b c at (at + 8) e (omega arith) g ∙ rw h)
@@ -111,4 +100,4 @@ pub ruleset success-laws = (open-fields, open-put, close-put)
 
 pub ruleset header-laws = (header-bare, header-word)
 
-pub ruleset failure-laws = (failure-place, failure-fits, failure-bare, failure-words)
+pub ruleset failure-laws = (failure-fits, failure-bare, failure-words)

@@ -1,10 +1,10 @@
 // The reply to a Forward Open or a Forward Close that failed. Beside it in rseip-cip: `decode_forward_fail` in
 // src/codec/decode/message_reply.rs; the crate has no such writer: added.
-use crate::triad::put_triad;
 use connection::ForwardRequestFail;
 use connection::RemainingPathSize;
 use reply_header::ExtendedStatus;
 use reply_header::Status;
+use triads::put_triad;
 use wire::Refusal;
 use wire::Wrote;
 use wire_write::put_byte;

@@ -4,7 +4,6 @@ mod close; // close.rt: a Forward Close that was served
 mod failure; // failure.rt: either, where it failed
 mod open; // open.rt: a Forward Open that was served
 mod success; // success.rt: application data
-mod triad; // triad.rt: what names a connection
 
 pub use close::write_forward_close_success;
 pub use failure::write_forward_failure;

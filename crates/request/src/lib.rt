@@ -3,9 +3,8 @@
 // A reader answers the record, and its parts as starts and lengths in the input; the path is judged and its segments are read from that part.
 mod send; // send.rt: Unconnected Send
 
+pub use close_encode::write_forward_close;
 use connection::UnconnectedSend;
-pub use forward_encode::write_forward_close;
-pub use forward_encode::write_forward_open;
 pub use forward_read::CloseRead;
 pub use forward_read::OpenRead;
 pub use forward_read::read_forward_close;
@@ -13,16 +12,17 @@ pub use forward_read::read_forward_open;
 pub use forward_sizes::default_connection_path;
 pub use forward_sizes::forward_close_size;
 pub use forward_sizes::forward_open_size;
+pub use message_encode::write_message;
+pub use message_encode::write_message_over;
 pub use message_read::MessageRead;
 pub use message_read::MessageRequest;
 pub use message_read::read_message;
-pub use request_encode::write_message;
-pub use request_encode::write_message_over;
-pub use request_encode::write_unconnected_send;
-pub use request_encode::write_unconnected_send_over;
+pub use open_encode::write_forward_open;
 pub use request_sizes::message_size;
 pub use request_sizes::unconnected_send_size;
 pub use send::read_unconnected_send;
+pub use send_encode::write_unconnected_send;
+pub use send_encode::write_unconnected_send_over;
 use wire::Refusal;
 
 // The record, start and length of the message, and of the path.

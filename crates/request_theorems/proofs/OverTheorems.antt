@@ -22,9 +22,10 @@ use Rattle.connection.specs.declared.UnconnectedSend.{UnconnectedSend}
 use Rattle.connection_words.specs.Requests.{messageBytes, sendBytes}
 use Rattle.route.specs.Routes.{routeSize}
 use Rattle.route.proofs.RouteLaws.{RouteSized, route-sized}
-use Rattle.route_written.specs.Written.{writtenRoute}
+use Rattle.route_written.specs.Written.{writtenRoute, overSize}
 use Rattle.request_sizes.specs.Sizes.{messageSize, sendSize}
-use Rattle.request_encode.specs.Over.{overSize, messageOverSize, sendOverSize}
+use Rattle.message_encode.specs.Over.{messageOverSize}
+use Rattle.send_encode.specs.Over.{sendOverSize}
 
 -- a list that is sized, whose numbers are such as the code's types hold
 module _ (pool : List ℕ) (p : Path) (n : ℕ) (ranged : AllRanged (slotsOf p)) (h : routeSize pool p ≡ done n) where

@@ -1,2 +1,3 @@
 pub mod WrittenLaws
+pub mod RecordLaws
 pub mod Exact

@@ -10,7 +10,7 @@ put-header-requires : tie.Need-put-header-requires
 put-header-requires c κs = search needs
 
 put-triad-requires : tie.Need-put-triad-requires
-put-triad-requires c κs = search (failure-laws, needs) fits 5000
+put-triad-requires c κs = search needs
 
 enum-told : tie.Need-enum-told
 enum-told c = search needs

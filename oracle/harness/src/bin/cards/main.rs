@@ -1,7 +1,9 @@
 //! Document 01's bench cards against the crate (AGREE or DIFFER), and what the crate does past the edges (EDGE).
+//! With `--record` the crate's answers to the cards alone, for the program `cards`.
 //! "doc: 5" beside an edge is the refusal number that document 01 gives there.
 mod bodies;
 mod paths;
+mod recorded;
 mod replies;
 mod requests;
 
@@ -64,6 +66,9 @@ pub fn out<E: Encode>(v: E) -> String {
 
 fn main() {
     quiet_panics();
+    if std::env::args().nth(1).as_deref() == Some("--record") {
+        return recorded::print();
+    }
     println!("profile: {}", if cfg!(debug_assertions) { "debug" } else { "release" });
     let mut t = T { ok: 0, bad: 0 };
     paths::run(&mut t);

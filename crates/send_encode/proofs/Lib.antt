@@ -1,0 +1,3 @@
+pub mod WriteLaws
+pub mod OverLaws
+pub mod Exact
