@@ -64,7 +64,7 @@ module _ (s : List ℕ) (n k : ℕ) where
 
       pub walk-outside : n ≤ k → refused 11 ≡ walkItem s n k
       unfolding walkItem
-      walk-outside l = let t = table in let g : n < k + 1 = omega arith in search rules
+      walk-outside l = let g : n < k + 1 = omega arith in search (rules, table)
 
       module _ (l : k < n) (a b : ℕ) (starts : a ≡ offsetAt s k) (stops : b ≡ stopAt s n k) where
         there : k + 1 ≤ n
@@ -72,7 +72,7 @@ module _ (s : List ℕ) (n k : ℕ) where
 
         pub walk-early : a < 2 + 2 * n → refused 7 ≡ walkItem s n k
         unfolding walkItem
-        walk-early f = let t = table in let g = there in let e : offsetAt s k < tableEnd n = omega (arith, starts) in search rules
+        walk-early f = let e : offsetAt s k < tableEnd n = omega (arith, starts) in search (rules, table, there)
 
         module _ (f : 2 + 2 * n ≤ a) where
           late : tableEnd n ≤ offsetAt s k
@@ -80,12 +80,7 @@ module _ (s : List ℕ) (n k : ℕ) where
 
           pub walk-empty : b ≤ a → refused 7 ≡ walkItem s n k
           unfolding walkItem
-          walk-empty p =
-              let t = table in
-              let g = there in
-              let e = late in
-              let q : stopAt s n k < offsetAt s k + 1 = omega (arith, starts, stops) in
-              search rules
+          walk-empty p = let q : stopAt s n k < offsetAt s k + 1 = omega (arith, starts, stops) in search (rules, table, there, late)
 
           module _ (p : a < b) where
             some : offsetAt s k + 1 ≤ stopAt s n k
@@ -93,13 +88,7 @@ module _ (s : List ℕ) (n k : ℕ) where
 
             pub walk-past : length s < b → refused 7 ≡ walkItem s n k
             unfolding walkItem
-            walk-past q =
-                let t = table in
-                let g = there in
-                let e = late in
-                let i = some in
-                let j : length s < stopAt s n k = omega (arith, stops) in
-                search rules depth 8
+            walk-past q = let j : length s < stopAt s n k = omega (arith, stops) in search (rules, table, there, late, some) depth 8
 
             pub walk-found : b ≤ length s → done (record { start = a; len = b - a }) ≡ walkItem s n k
             unfolding walkItem

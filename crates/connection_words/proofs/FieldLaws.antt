@@ -157,7 +157,7 @@ module _ (large : Bool) (w l u : ℕ) (is : l ≡ sizeLimit large) (of : u ≡ u
 
     pub read-past : 127 < w / u → refused 5 ≡ readParameters large w
     unfolding readParameters
-    read-past h = let g : 127 < w / unit large = rw (← of) h in let k = size-kept in search rules
+    read-past h = let g : 127 < w / unit large = rw (← of) h in search (rules, size-kept)
 
     module _ (few : w / u ≤ 127) where
       flags-kept : w / unit large ≤ 127
@@ -165,11 +165,7 @@ module _ (large : Bool) (w l u : ℕ) (is : l ≡ sizeLimit large) (of : u ≡ u
 
       pub read-reserved : (w / u / 8 % 2 ≡ 0 → ⊥) → refused 5 ≡ readParameters large w
       unfolding readParameters
-      read-reserved h =
-          let g : w / unit large / 8 % 2 ≡ 0 → ⊥ = rw (← of) h in
-          let k = size-kept in
-          let m = flags-kept in
-          search rules
+      read-reserved h = let g : w / unit large / 8 % 2 ≡ 0 → ⊥ = rw (← of) h in search (rules, size-kept, flags-kept)
 
       module _ (none : w / u / 8 % 2 ≡ 0) where
         none-kept : w / unit large / 8 % 2 ≡ 0
@@ -177,22 +173,14 @@ module _ (large : Bool) (w l u : ℕ) (is : l ≡ sizeLimit large) (of : u ≡ u
 
         pub read-type : 2 < w / u / 16 % 4 → refused 4 ≡ readParameters large w
         unfolding readParameters
-        read-type h =
-            let g : 2 < w / unit large / 16 % 4 = rw (← of) h in
-            let k = size-kept in
-            let m = flags-kept in
-            let n = none-kept in
-            search rules
+        read-type h = let g : 2 < w / unit large / 16 % 4 = rw (← of) h in search (rules, size-kept, flags-kept, none-kept)
 
         pub read-parts : w / u / 16 % 4 ≤ 2 → (p : ConnectionParameters) → p ≡ parametersOf (w % u) (w / u) → done p ≡ readParameters large w
         unfolding readParameters
         read-parts h p e =
             let g : w / unit large / 16 % 4 ≤ 2 = rw (← of) h in
-            let k = size-kept in
-            let m = flags-kept in
-            let n = none-kept in
             let d : done p ≡ done (parametersOf (w % unit large) (w / unit large)) = rw (← of) (ap done e) in
-            search rules
+            search (rules, size-kept, flags-kept, none-kept)
 
 -- ---- class and trigger
 module _ (o : OpenOptions) (d t c : ℕ)
