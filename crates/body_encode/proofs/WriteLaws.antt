@@ -16,7 +16,7 @@ use Rattle.wire.specs.Refusals.{number}
 use Rattle.wire.specs.declared.Refusal.{Refusal}
 use Rattle.wire.specs.declared.Wrote.{Wrote}
 use Rattle.wire.specs.declared.Wrote.the-variants.{Size, Refused}
-use Rattle.wire.proofs.Rules.{rules, all-keep, all-were, then-stops, then-goes, Went, then-were, within-was}
+use Rattle.wire.proofs.Rules.{rules, done-same, all-keep, all-were, then-stops, then-goes, Went, then-were, within-was}
 use Rattle.wire.proofs.Answers.{Parts, plus-parts, plus-none, plus-assoc}
 use Rattle.wire.proofs.Numbers.{low-length}
 use Rattle.wire.proofs.Stores.{sets-onto}
@@ -96,8 +96,7 @@ sized lent (m ∷ ns) n h =
     let l : m ≤ lent = w .0 .0 in
     let s : 1 ≤ m = w .0 .1 .0 in
     let p : Parts (done m) (itemsSize (lent - m) ns) n = plus-parts (done m) (itemsSize (lent - m) ns) n (w .1) in
-    let f : done m ≡ done (p .first) = p .first-is in
-    let e : m ≡ p .first = cc in
+    let e : m ≡ p .first = done-same (p .first-is) in
     let r : Sized (lent - m) ns (p .second) = sized (lent - m) ns (p .second) (p .second-is) in
     record { sum = omega (arith, p .sum, r .sum); inside = omega (arith, p .sum, r .inside); many = omega (arith, p .sum, r .many) }
 

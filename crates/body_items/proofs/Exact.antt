@@ -1,10 +1,8 @@
 -- Each public function takes every argument, and its contract leaves one answer.
 -- Assumes nothing.
-use mathlib.Core.Path.{_≡_, refl, sym, ap}
+use mathlib.Core.Path.{_≡_, refl, ap}
 use Rattle.exact.specs.Exact.{Exact, exact, says, same}
-use Rattle.wire.specs.Refusals.{number}
-use Rattle.wire.proofs.Rules.{never}
-use Rattle.wire.proofs.Answers.{number-one}
+use Rattle.wire.proofs.Answers.{one-by, number-back, fromPaper}
 use Rattle.body_items.specs.Items.{paperItem}
 use Rattle.body_items.specs.declared.ItemRead.{ItemRead}
 use Rattle.body_items.specs.declared.ItemRead.the-variants.{Found, Refused}
@@ -13,10 +11,7 @@ use Rattle.body_items.proofs.body_item
 
 -- an answer's form on paper says which answer it is
 pub item-one : (a b : ItemRead) → paperItem a ≡ paperItem b → a ≡ b
-item-one (Found x) (Found y) h = let p : x ≡ y = cc in rw p
-item-one (Found x) (Refused e) h = never (sym h)
-item-one (Refused e) (Found x) h = never h
-item-one (Refused e) (Refused f) h = let q : number e ≡ number f = cc in ap Refused (number-one e f q)
+item-one = one-by paperItem (fromPaper Found Refused) (elim [ Found x ↦ refl | Refused e ↦ ap Refused (number-back e) ])
 
 pub walk-item-exact : Exact walk_item.ended (λ _. walk_item.clauses)
 walk-item-exact = exact (λ w κs a. (tt, λ m. tt)) (λ w κs a g z e. search says) (λ t. (item-one (t .z) (t .z′) (same (t .said) (t .said′)), refl))

@@ -12,7 +12,7 @@ use Rattle.wire.specs.Answers.{done, refused, paperCount, under, judged}
 use Rattle.wire.specs.declared.Refusal.{Refusal}
 use Rattle.wire.specs.declared.Counted.{Counted}
 use Rattle.wire.specs.declared.Counted.the-variants.{Count, Refused as NotCounted}
-use Rattle.wire.proofs.Rules.{rules, all-keep, all-were, then-stops, then-goes, Went, then-were}
+use Rattle.wire.proofs.Rules.{rules, done-same, all-keep, all-were, then-stops, then-goes, Went, then-were}
 use Rattle.wire.proofs.Numbers.{below-or, value-two}
 use Rattle.connection.specs.Limits.{maxRecord}
 use Rattle.body_encode.specs.Bodies.{tableEnd}
@@ -64,7 +64,7 @@ module _ (s : List ℕ) (n k : ℕ) where
 
       pub walk-outside : n ≤ k → refused 11 ≡ walkItem s n k
       unfolding walkItem
-      walk-outside l = let t = table in let g : n < k + 1 = omega arith in search rules
+      walk-outside l = let g : n < k + 1 = omega arith in search (rules, table)
 
       module _ (l : k < n) (a b : ℕ) (starts : a ≡ offsetAt s k) (stops : b ≡ stopAt s n k) where
         there : k + 1 ≤ n
@@ -72,7 +72,7 @@ module _ (s : List ℕ) (n k : ℕ) where
 
         pub walk-early : a < 2 + 2 * n → refused 7 ≡ walkItem s n k
         unfolding walkItem
-        walk-early f = let t = table in let g = there in let e : offsetAt s k < tableEnd n = omega (arith, starts) in search rules
+        walk-early f = let e : offsetAt s k < tableEnd n = omega (arith, starts) in search (rules, table, there)
 
         module _ (f : 2 + 2 * n ≤ a) where
           late : tableEnd n ≤ offsetAt s k
@@ -80,12 +80,7 @@ module _ (s : List ℕ) (n k : ℕ) where
 
           pub walk-empty : b ≤ a → refused 7 ≡ walkItem s n k
           unfolding walkItem
-          walk-empty p =
-              let t = table in
-              let g = there in
-              let e = late in
-              let q : stopAt s n k < offsetAt s k + 1 = omega (arith, starts, stops) in
-              search rules
+          walk-empty p = let q : stopAt s n k < offsetAt s k + 1 = omega (arith, starts, stops) in search (rules, table, there, late)
 
           module _ (p : a < b) where
             some : offsetAt s k + 1 ≤ stopAt s n k
@@ -93,13 +88,7 @@ module _ (s : List ℕ) (n k : ℕ) where
 
             pub walk-past : length s < b → refused 7 ≡ walkItem s n k
             unfolding walkItem
-            walk-past q =
-                let t = table in
-                let g = there in
-                let e = late in
-                let i = some in
-                let j : length s < stopAt s n k = omega (arith, stops) in
-                search rules depth 8
+            walk-past q = let j : length s < stopAt s n k = omega (arith, stops) in search (rules, table, there, late, some) depth 8
 
             pub walk-found : b ≤ length s → done (record { start = a; len = b - a }) ≡ walkItem s n k
             unfolding walkItem
@@ -171,8 +160,7 @@ pub walk-inside : (s : List ℕ) (n k : ℕ) (i : Item) → walkItem s n k ≡ d
 unfolding walkItem
 walk-inside s n k i h =
     let w = all-were (walkRules s n k) (done (itemAt s n k)) i h in
-    let d : done (itemAt s n k) ≡ done i = w .1 in
-    let e : itemAt s n k ≡ i = cc in
+    let e : itemAt s n k ≡ i = done-same (w .1) in
     omega (arith, w .0 .0, w .0 .1 .1 .1 .1 .0, w .0 .1 .1 .1 .1 .1 .0, ap (λ (x : Item). x .start) e)
 
 -- an item that was found: the body was accepted, and this is its item

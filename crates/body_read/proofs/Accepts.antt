@@ -8,7 +8,7 @@ use native.Mathlib.Nat.{eq-or-lt-of-le}
 use native.Mathlib.Numerals.{add-one}
 use lib.ListN.{length}
 use Rattle.wire.specs.Answers.{done, under, over, judged, KeepsAll}
-use Rattle.wire.proofs.Rules.{all-keep, all-were}
+use Rattle.wire.proofs.Rules.{done-same, all-keep, all-were}
 use Rattle.connection.specs.Limits.{maxRecord}
 use Rattle.body_encode.specs.Bodies.{tableEnd}
 use Rattle.body_read.specs.Reads.{countAt, offsetAt, laterRules, tableRules, readBody}
@@ -100,8 +100,7 @@ unfolding readBody
 accepted s n h =
     let w = all-were (over (length s) maxRecord 3 ∷ under (length s) 2 1 ∷ []) (judged (tableRules (countAt s) s) (done (countAt s))) n h in
     let t = all-were (tableRules (countAt s) s) (done (countAt s)) n (w .1) in
-    let d : done (countAt s) ≡ done n = t .1 in
-    let e : countAt s ≡ n = cc in
+    let e : countAt s ≡ n = done-same (t .1) in
     table-were n s e (w .0 .0) (w .0 .1 .0) (rw e at (t .0))
 
 pub accepts : (s : List ℕ) (n : ℕ) → Accepted s n → readBody s ≡ done n

@@ -52,11 +52,11 @@ module _ (s : List ℕ) (n : ℕ) (some : 1 ≤ n) where
       here = sym is ∙ e
 
       pub table-outside : length s ≤ first → refused 7 ≡ judged (tableRules n s) (done n)
-      table-outside l = let g = here in let k : length s < offsetAt s 0 + 1 = omega (arith, is) in table (refused 7) (search rules)
+      table-outside l = let k : length s < offsetAt s 0 + 1 = omega (arith, is) in table (refused 7) (search (rules, here))
 
       pub table-goes : first < length s → (r : Counted) → paperCount r ≡ judged (laterRules (n - 1) s 0) (done n)
           → paperCount r ≡ judged (tableRules n s) (done n)
-      table-goes l r f = let k : offsetAt s 0 + 1 ≤ length s = omega (arith, is) in let g = here in table (paperCount r) (search rules)
+      table-goes l r f = let k : offsetAt s 0 + 1 ≤ length s = omega (arith, is) in table (paperCount r) (search (rules, here))
 
 pub ruleset table-laws = (table-short, table-first, table-ready, table-outside, table-goes)
 
@@ -89,7 +89,7 @@ module _ (s : List ℕ) (n : ℕ) where
         same = is ∙ sym (offset-next s k)
 
         pub reading-low : v ≤ last → refused 7 ≡ judged (laterRules (n - 1) s 0) (done n)
-        reading-low f = let g = there in let j : offsetAt s (k + 1) < offsetAt s k + 1 = omega (arith, same, m .is) in turn (refused 7) (search rules)
+        reading-low f = let j : offsetAt s (k + 1) < offsetAt s k + 1 = omega (arith, same, m .is) in turn (refused 7) (search (rules, there))
 
         module _ (f : last < v) where
           higher : offsetAt s k + 1 ≤ offsetAt s (k + 1)
@@ -97,18 +97,14 @@ module _ (s : List ℕ) (n : ℕ) where
 
           pub reading-outside : length s ≤ v → refused 7 ≡ judged (laterRules (n - 1) s 0) (done n)
           reading-outside o =
-              let g = there in
-              let i = higher in
               let j : length s < offsetAt s (k + 1) + 1 = omega (arith, same) in
-              turn (refused 7) (search rules)
+              turn (refused 7) (search (rules, there, higher))
 
           pub reading-more : v < length s → Reading v (k + 1)
           reading-more o =
-              let g = there in
-              let i = higher in
               let j : offsetAt s (k + 1) + 1 ≤ length s = omega (arith, same) in
               let left : Answer ℕ = judged (laterRules (n - (k + 1 + 1)) s (k + 1)) (done n) in
-              record { more = omega arith; few = m .few; is = same; rest = turn left (search rules) }
+              record { more = omega arith; few = m .few; is = same; rest = turn left (search (rules, there, higher)) }
 
     pub reading-ends : n ≤ k + 1 → done n ≡ judged (laterRules (n - 1) s 0) (done n)
     reading-ends h =

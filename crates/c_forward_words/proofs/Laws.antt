@@ -14,8 +14,8 @@ use Rattle.connection_words.specs.Codes.{bit}
 use Rattle.connection_words.specs.Fields.{unit, flagsOf, parameterWord, parametersOf, readParameters, paperParameters}
 use Rattle.connection_words.specs.declared.ParametersRead.{ParametersRead}
 use Rattle.connection_words.specs.declared.ParametersRead.the-variants.{Found, Refused}
-use Rattle.connection_words.proofs.FieldLaws.{bit-most, word-over, word-is}
-use Rattle.connection_words.proofs.Words.{bit-again, variable-again, priority-again, type-again, parameters-were}
+use Rattle.connection_words.proofs.FieldLaws.{bit-code, priority-code, type-code, variable-code, word-over, word-is}
+use Rattle.connection_words.proofs.Words.{parameters-were}
 use Rattle.c_answers.specs.Codes.{code}
 use Rattle.c_forward_words.specs.Words.{parametersFrom, encodedParameters, parameterNumbers}
 
@@ -40,7 +40,7 @@ module _ (large owner variable : Bool) (kind level size : ℕ) where
 
       flags-named : bit variable + 2 * level + 16 * kind + 64 * bit owner ≡ flagsOf named
       unfolding flagsOf named
-      flags-named = rw (variable-again (bit variable) (bit-most variable), priority-again level b, type-again kind a)
+      flags-named = rw (variable-code .again (bit variable) (bit-code .most variable), priority-code .again level b, type-code .again kind a)
 
       module _ (v o : ℕ) (i : v ≡ bit variable) (j : o ≡ bit owner) where
         made : (u : ℕ) → u ≡ unit large → size ≤ sizeLimit large → size + u * (v + 2 * level + 16 * kind + 64 * o) ≡ code (encodedParameters large owner kind variable level size)
@@ -78,6 +78,6 @@ parameter-numbers large word w p u f is h of by =
     let k = parameters-were large word p (sym is ∙ ap paperParameters h) in
     let g : ℕ = word / unit large in
     rw
-    (by, of, ← k .1, bit-again (g / 64 % 2) (omega arith), type-again (g / 16 % 4) (k .0 .1 .1 .1 .0), variable-again (g % 2) (omega arith), priority-again (g / 2 % 4) (omega arith))
+    (by, of, ← k .1, bit-code .again (g / 64 % 2) (omega arith), type-code .again (g / 16 % 4) (k .0 .1 .1 .1 .0), variable-code .again (g % 2) (omega arith), priority-code .again (g / 2 % 4) (omega arith))
 
 pub ruleset decode-laws = (no-parameters, some-parameters, parameter-numbers)

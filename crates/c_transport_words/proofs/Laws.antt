@@ -16,8 +16,8 @@ use Rattle.connection_words.specs.Codes.{bit, directionOf, triggerOf, classOf}
 use Rattle.connection_words.specs.Fields.{classTrigger, transport, readTransport, paperTransport}
 use Rattle.connection_words.specs.declared.TransportRead.{TransportRead}
 use Rattle.connection_words.specs.declared.TransportRead.the-variants.{Found, Refused}
-use Rattle.connection_words.proofs.FieldLaws.{bit-most}
-use Rattle.connection_words.proofs.Words.{direction-again, trigger-again, class-again, transport-were}
+use Rattle.connection_words.proofs.FieldLaws.{bit-code, class-code, direction-code, trigger-code}
+use Rattle.connection_words.proofs.Words.{transport-were}
 use Rattle.c_answers.specs.Codes.{code}
 use Rattle.c_transport_words.specs.Transports.{transportByte, encodedTransport, transportNumbers}
 
@@ -40,7 +40,7 @@ module _ (server : Bool) (trigger class : ℕ) where
     unfolding encodedTransport
     byte-made d i h =
         let y : done (128 * d + 16 * trigger + class) ≡ done (transportByte (directionOf (bit server)) (triggerOf trigger) (classOf class)) =
-        rw (i, direction-again (bit server) (bit-most server), trigger-again trigger a, class-again class h) in
+        rw (i, direction-code .again (bit server) (bit-code .most server), trigger-code .again trigger a, class-code .again class h) in
         let z : done (128 * d + 16 * trigger + class) ≡ encodedTransport server trigger class = search rules in
         ap code z
 
@@ -58,7 +58,7 @@ pub transport-numbers : (b : ℕ) (w : TransportRead) (d : Direction) (t : Trigg
 transport-numbers b w d t c l is h =
     let k = transport-were b (transport d t c) (sym is ∙ ap paperTransport h) in
     let n : (b / 128 ∷ b / 16 % 8 ∷ b % 16 ∷ []) ≡ transportNumbers (transport (directionOf (b / 128)) (triggerOf (b / 16 % 8)) (classOf (b % 16))) =
-    rw (direction-again (b / 128) (omega arith), trigger-again (b / 16 % 8) (k .0 .0), class-again (b % 16) (k .0 .1 .0)) in
+    rw (direction-code .again (b / 128) (omega arith), trigger-code .again (b / 16 % 8) (k .0 .0), class-code .again (b % 16) (k .0 .1 .0)) in
     n ∙ ap transportNumbers (k .1)
 
 pub ruleset byte-laws = (no-transport, some-transport, transport-numbers)

@@ -1,10 +1,8 @@
 -- Each public function takes every argument, and its contract leaves one answer.
 -- Assumes nothing.
-use mathlib.Core.Path.{_≡_, refl, sym, ap}
+use mathlib.Core.Path.{_≡_, refl, ap}
 use Rattle.exact.specs.Exact.{Exact, exact, says, same}
-use Rattle.wire.specs.Refusals.{number}
-use Rattle.wire.proofs.Rules.{never}
-use Rattle.wire.proofs.Answers.{number-one}
+use Rattle.wire.proofs.Answers.{one-by, number-back, fromPaper}
 use Rattle.connection_words.specs.Fields.{paperWord, paperParameters}
 use Rattle.connection_words.specs.declared.Word.{Word}
 use Rattle.connection_words.specs.declared.Word.the-variants.{Bits, Refused as NoWord}
@@ -16,16 +14,10 @@ use Rattle.connection_words.proofs.fields.decode_parameters
 -- ---- an answer's form on paper says which answer it is
 
 pub word-one : (a b : Word) → paperWord a ≡ paperWord b → a ≡ b
-word-one (Bits m) (Bits n) h = let q : m ≡ n = cc in rw q
-word-one (Bits n) (NoWord e) h = never (sym h)
-word-one (NoWord e) (Bits n) h = never h
-word-one (NoWord e) (NoWord f) h = let q : number e ≡ number f = cc in ap NoWord (number-one e f q)
+word-one = one-by paperWord (fromPaper Bits NoWord) (elim [ Bits n ↦ refl | NoWord e ↦ ap NoWord (number-back e) ])
 
 pub parameters-one : (a b : ParametersRead) → paperParameters a ≡ paperParameters b → a ≡ b
-parameters-one (FoundParameters p) (FoundParameters q) h = let e : p ≡ q = cc in rw e
-parameters-one (FoundParameters p) (NoParameters e) h = never (sym h)
-parameters-one (NoParameters e) (FoundParameters p) h = never h
-parameters-one (NoParameters e) (NoParameters f) h = let q : number e ≡ number f = cc in ap NoParameters (number-one e f q)
+parameters-one = one-by paperParameters (fromPaper FoundParameters NoParameters) (elim [ FoundParameters p ↦ refl | NoParameters e ↦ ap NoParameters (number-back e) ])
 
 -- ---- the fields
 

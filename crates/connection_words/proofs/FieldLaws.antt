@@ -1,13 +1,15 @@
 -- Each end of the code for fields of several bits, as a law with plain conditions. Assumes nothing.
-use Prim.Native.Nat.{ℕ, _+_, _*_, _/_, _%_, _^_, _≤_, _<_}
+use Prim.Native.Nat.{ℕ, zero, suc, _+_, _*_, _/_, _%_, _^_, _≤_, _<_}
 use mathlib.Core.Path.{_≡_, refl, ap}
 use mathlib.Core.Bool.{Bool, true, false}
+use mathlib.Core.Logic.{⊎-elim}
 use native.Mathlib.Omega.{arith}
 use lib.Dec.{eqb}
 use mir.Val.{Fits}
 use mir.Syntax.{w32}
 use Rattle.wire.specs.Answers.{done, refused}
 use Rattle.wire.proofs.Rules.{rules}
+use Rattle.wire.proofs.Numbers.{below-or}
 use Rattle.connection_words.specs.Codes.{bit, variableNumber, priorityNumber, typeNumber, directionNumber, triggerNumber, classNumber, variableOf, priorityOf, typeOf, directionOf, triggerOf, classOf}
 use Rattle.connection.specs.Limits.{sizeLimit}
 use Rattle.connection_words.specs.Fields.{unit, flagsOf, wordOf, parameterWord, parametersOf, readParameters, classTrigger, transport, readTransport}
@@ -26,44 +28,70 @@ use Rattle.connection.specs.declared.VariableLength.the-variants.{Fixed, Variab
 use Rattle.connection.specs.declared.ConnectionParameters.{ConnectionParameters}
 use Rattle.connection.specs.declared.OpenOptions.{OpenOptions}
 
--- ---- how large the numbers are
+-- ---- numbers that stand for values: each value from its number, how large the numbers are, and each number from its value
 
-pub bit-most : (b : Bool) → bit b ≤ 1
-bit-most false = omega arith
-bit-most true = omega arith
+pub record Coded {A : Type 0} (number : A → ℕ) (of : ℕ → A) (last : ℕ) : Type 0 where
+  pub back : (a : A) → of (number a) ≡ a
+  pub most : (a : A) → number a ≤ last
+  pub again : (n : ℕ) → n ≤ last → number (of n) ≡ n
 
-pub variable-most : (v : VariableLength) → variableNumber v ≤ 1
-variable-most Fixed = omega arith
-variable-most Variable = omega arith
+-- what is the same at each number up to the last
+abbrev Same : (ℕ → ℕ) → ℕ → Type 0
+Same f zero = f 0 ≡ 0
+Same f (suc k) = (f (suc k) ≡ suc k) × Same f k
 
-pub priority-most : (p : Priority) → priorityNumber p ≤ 3
-priority-most Low = omega arith
-priority-most High = omega arith
-priority-most Scheduled = omega arith
-priority-most Urgent = omega arith
+same : (f : ℕ → ℕ) (k : ℕ) → Same f k → (n : ℕ) → n ≤ k → f n ≡ n
+same f zero s n l = let e : n ≡ 0 = omega arith in rw e s
+same f (suc k) s n l = ⊎-elim (λ (h : n < suc k). same f k (s .1) n (omega arith)) (λ (h : suc k ≤ n). let e : n ≡ suc k = omega arith in rw e (s .0)) (below-or n (suc k))
 
-pub type-most : (t : ConnectionType) → typeNumber t ≤ 2
-type-most Null = omega arith
-type-most Multicast = omega arith
-type-most P2P = omega arith
+pub bit-code : Coded bit (λ n. eqb n 1) 1
+bit-code = record {
+  back = elim [ false ↦ refl | true ↦ refl ];
+  most = elim [ false ↦ omega arith | true ↦ omega arith ];
+  again = same _ 1 (search);
+}
 
-pub direction-most : (d : Direction) → directionNumber d ≤ 1
-direction-most Client = omega arith
-direction-most Server = omega arith
+pub variable-code : Coded variableNumber variableOf 1
+variable-code = record {
+  back = elim [ Fixed ↦ refl | Variable ↦ refl ];
+  most = elim [ Fixed ↦ omega arith | Variable ↦ omega arith ];
+  again = same _ 1 (search);
+}
 
-pub trigger-most : (t : TriggerType) → triggerNumber t ≤ 2
-trigger-most Cyclic = omega arith
-trigger-most ChangeOfState = omega arith
-trigger-most Application = omega arith
+pub priority-code : Coded priorityNumber priorityOf 3
+priority-code = record {
+  back = elim [ Low ↦ refl | High ↦ refl | Scheduled ↦ refl | Urgent ↦ refl ];
+  most = elim [ Low ↦ omega arith | High ↦ omega arith | Scheduled ↦ omega arith | Urgent ↦ omega arith ];
+  again = same _ 3 (search);
+}
 
-pub class-most : (c : TransportClass) → classNumber c ≤ 6
-class-most Class0 = omega arith
-class-most Class1 = omega arith
-class-most Class2 = omega arith
-class-most Class3 = omega arith
-class-most Class4 = omega arith
-class-most Class5 = omega arith
-class-most Class6 = omega arith
+pub type-code : Coded typeNumber typeOf 2
+type-code = record {
+  back = elim [ Null ↦ refl | Multicast ↦ refl | P2P ↦ refl ];
+  most = elim [ Null ↦ omega arith | Multicast ↦ omega arith | P2P ↦ omega arith ];
+  again = same _ 2 (search);
+}
+
+pub direction-code : Coded directionNumber directionOf 1
+direction-code = record {
+  back = elim [ Client ↦ refl | Server ↦ refl ];
+  most = elim [ Client ↦ omega arith | Server ↦ omega arith ];
+  again = same _ 1 (search);
+}
+
+pub trigger-code : Coded triggerNumber triggerOf 2
+trigger-code = record {
+  back = elim [ Cyclic ↦ refl | ChangeOfState ↦ refl | Application ↦ refl ];
+  most = elim [ Cyclic ↦ omega arith | ChangeOfState ↦ omega arith | Application ↦ omega arith ];
+  again = same _ 2 (search);
+}
+
+pub class-code : Coded classNumber classOf 6
+class-code = record {
+  back = elim [ Class0 ↦ refl | Class1 ↦ refl | Class2 ↦ refl | Class3 ↦ refl | Class4 ↦ refl | Class5 ↦ refl | Class6 ↦ refl ];
+  most = elim [ Class0 ↦ omega arith | Class1 ↦ omega arith | Class2 ↦ omega arith | Class3 ↦ omega arith | Class4 ↦ omega arith | Class5 ↦ omega arith | Class6 ↦ omega arith ];
+  again = same _ 6 (search);
+}
 
 -- ---- the flags of a parameter word
 module _ (p : ConnectionParameters) (v q t o : ℕ)
@@ -76,7 +104,7 @@ module _ (p : ConnectionParameters) (v q t o : ℕ)
   pub flags-few : v + 2 * q + 16 * t + 64 * o < 128
   flags-few =
       omega
-      (arith, a, b, c, d, variable-most (p .«variable_length»), priority-most (p .priority), type-most (p .«connection_type»), bit-most (p .«redundant_owner»))
+      (arith, a, b, c, d, variable-code .most (p .«variable_length»), priority-code .most (p .priority), type-code .most (p .«connection_type»), bit-code .most (p .«redundant_owner»))
 
 pub flags-most : (p : ConnectionParameters) → flagsOf p < 128
 unfolding flagsOf
@@ -129,7 +157,7 @@ module _ (large : Bool) (w l u : ℕ) (is : l ≡ sizeLimit large) (of : u ≡ u
 
     pub read-past : 127 < w / u → refused 5 ≡ readParameters large w
     unfolding readParameters
-    read-past h = let g : 127 < w / unit large = rw (← of) h in let k = size-kept in search rules
+    read-past h = let g : 127 < w / unit large = rw (← of) h in search (rules, size-kept)
 
     module _ (few : w / u ≤ 127) where
       flags-kept : w / unit large ≤ 127
@@ -137,11 +165,7 @@ module _ (large : Bool) (w l u : ℕ) (is : l ≡ sizeLimit large) (of : u ≡ u
 
       pub read-reserved : (w / u / 8 % 2 ≡ 0 → ⊥) → refused 5 ≡ readParameters large w
       unfolding readParameters
-      read-reserved h =
-          let g : w / unit large / 8 % 2 ≡ 0 → ⊥ = rw (← of) h in
-          let k = size-kept in
-          let m = flags-kept in
-          search rules
+      read-reserved h = let g : w / unit large / 8 % 2 ≡ 0 → ⊥ = rw (← of) h in search (rules, size-kept, flags-kept)
 
       module _ (none : w / u / 8 % 2 ≡ 0) where
         none-kept : w / unit large / 8 % 2 ≡ 0
@@ -149,22 +173,14 @@ module _ (large : Bool) (w l u : ℕ) (is : l ≡ sizeLimit large) (of : u ≡ u
 
         pub read-type : 2 < w / u / 16 % 4 → refused 4 ≡ readParameters large w
         unfolding readParameters
-        read-type h =
-            let g : 2 < w / unit large / 16 % 4 = rw (← of) h in
-            let k = size-kept in
-            let m = flags-kept in
-            let n = none-kept in
-            search rules
+        read-type h = let g : 2 < w / unit large / 16 % 4 = rw (← of) h in search (rules, size-kept, flags-kept, none-kept)
 
         pub read-parts : w / u / 16 % 4 ≤ 2 → (p : ConnectionParameters) → p ≡ parametersOf (w % u) (w / u) → done p ≡ readParameters large w
         unfolding readParameters
         read-parts h p e =
             let g : w / unit large / 16 % 4 ≤ 2 = rw (← of) h in
-            let k = size-kept in
-            let m = flags-kept in
-            let n = none-kept in
             let d : done p ≡ done (parametersOf (w % unit large) (w / unit large)) = rw (← of) (ap done e) in
-            search rules
+            search (rules, size-kept, flags-kept, none-kept)
 
 -- ---- class and trigger
 module _ (o : OpenOptions) (d t c : ℕ)

@@ -1,116 +1,21 @@
 -- Parameter words, once over the size of the form, and the class-and-trigger byte: what is written reads back, what is read writes back.
 -- Assumes nothing.
-use Prim.Native.Nat.{ℕ, zero, suc, _+_, _*_, _/_, _%_, _^_, _≤_, _<_}
+use Prim.Native.Nat.{ℕ, _+_, _*_, _/_, _%_, _^_, _≤_, _<_}
 use mathlib.Core.Path.{_≡_, refl, ap, _∙_}
 use mathlib.Core.Bool.{Bool, true, false}
 use native.Mathlib.Nat.{div-div-eq-div-mul}
 use native.Mathlib.Omega.{arith}
 use lib.Dec.{eqb}
 use Rattle.wire.specs.Answers.{done, KeepsAll}
-use Rattle.wire.proofs.Rules.{all-keep, all-were}
+use Rattle.wire.proofs.Rules.{done-same, all-keep, all-were}
 use Rattle.connection_words.specs.Codes.{bit, variableNumber, priorityNumber, typeNumber, directionNumber, triggerNumber, classNumber, variableOf, priorityOf, typeOf, directionOf, triggerOf, classOf}
 use Rattle.connection.specs.Limits.{sizeLimit}
 use Rattle.connection.specs.Defaults.{defaultParameters, defaultOptions}
 use Rattle.connection_words.specs.Fields.{unit, flagsOf, wordOf, parametersOf, wordRules, readParameters, classTrigger, Transport, transport, transportRules, readTransport}
 use Rattle.connection_words.specs.Requests.{parameterWidth}
-use Rattle.connection.specs.declared.ConnectionType.{ConnectionType}
-use Rattle.connection.specs.declared.ConnectionType.the-variants.{Null, Multicast, P2P}
-use Rattle.connection.specs.declared.Priority.{Priority}
-use Rattle.connection.specs.declared.Priority.the-variants.{Low, High, Scheduled, Urgent}
-use Rattle.connection.specs.declared.Direction.{Direction}
-use Rattle.connection.specs.declared.Direction.the-variants.{Client, Server}
-use Rattle.connection.specs.declared.TriggerType.{TriggerType}
-use Rattle.connection.specs.declared.TriggerType.the-variants.{Cyclic, ChangeOfState, Application}
-use Rattle.connection.specs.declared.TransportClass.{TransportClass}
-use Rattle.connection.specs.declared.TransportClass.the-variants.{Class0, Class1, Class2, Class3, Class4, Class5, Class6}
-use Rattle.connection.specs.declared.VariableLength.{VariableLength}
-use Rattle.connection.specs.declared.VariableLength.the-variants.{Fixed, Variable}
 use Rattle.connection.specs.declared.ConnectionParameters.{ConnectionParameters}
 use Rattle.connection.specs.declared.OpenOptions.{OpenOptions}
-use Rattle.connection_words.proofs.FieldLaws.{bit-most, variable-most, priority-most, type-most, direction-most, trigger-most, class-most, flags-most}
-
--- ---- codes, there and back
-
-bit-back : (b : Bool) → eqb (bit b) 1 ≡ b
-bit-back false = refl
-bit-back true = refl
-
-variable-back : (v : VariableLength) → variableOf (variableNumber v) ≡ v
-variable-back Fixed = refl
-variable-back Variable = refl
-
-priority-back : (p : Priority) → priorityOf (priorityNumber p) ≡ p
-priority-back Low = refl
-priority-back High = refl
-priority-back Scheduled = refl
-priority-back Urgent = refl
-
-type-back : (t : ConnectionType) → typeOf (typeNumber t) ≡ t
-type-back Null = refl
-type-back Multicast = refl
-type-back P2P = refl
-
-direction-back : (d : Direction) → directionOf (directionNumber d) ≡ d
-direction-back Client = refl
-direction-back Server = refl
-
-trigger-back : (t : TriggerType) → triggerOf (triggerNumber t) ≡ t
-trigger-back Cyclic = refl
-trigger-back ChangeOfState = refl
-trigger-back Application = refl
-
-class-back : (c : TransportClass) → classOf (classNumber c) ≡ c
-class-back Class0 = refl
-class-back Class1 = refl
-class-back Class2 = refl
-class-back Class3 = refl
-class-back Class4 = refl
-class-back Class5 = refl
-class-back Class6 = refl
-
-pub bit-again : (n : ℕ) → n ≤ 1 → bit (eqb n 1) ≡ n
-bit-again zero h = refl
-bit-again (suc zero) h = refl
-bit-again (suc (suc n)) h = absurd (omega arith)
-
-pub variable-again : (n : ℕ) → n ≤ 1 → variableNumber (variableOf n) ≡ n
-variable-again zero h = refl
-variable-again (suc zero) h = refl
-variable-again (suc (suc n)) h = absurd (omega arith)
-
-pub priority-again : (n : ℕ) → n ≤ 3 → priorityNumber (priorityOf n) ≡ n
-priority-again zero h = refl
-priority-again (suc zero) h = refl
-priority-again (suc (suc zero)) h = refl
-priority-again (suc (suc (suc zero))) h = refl
-priority-again (suc (suc (suc (suc n)))) h = absurd (omega arith)
-
-pub type-again : (n : ℕ) → n ≤ 2 → typeNumber (typeOf n) ≡ n
-type-again zero h = refl
-type-again (suc zero) h = refl
-type-again (suc (suc zero)) h = refl
-type-again (suc (suc (suc n))) h = absurd (omega arith)
-
-pub direction-again : (n : ℕ) → n ≤ 1 → directionNumber (directionOf n) ≡ n
-direction-again zero h = refl
-direction-again (suc zero) h = refl
-direction-again (suc (suc n)) h = absurd (omega arith)
-
-pub trigger-again : (n : ℕ) → n ≤ 2 → triggerNumber (triggerOf n) ≡ n
-trigger-again zero h = refl
-trigger-again (suc zero) h = refl
-trigger-again (suc (suc zero)) h = refl
-trigger-again (suc (suc (suc n))) h = absurd (omega arith)
-
-pub class-again : (n : ℕ) → n ≤ 6 → classNumber (classOf n) ≡ n
-class-again zero h = refl
-class-again (suc zero) h = refl
-class-again (suc (suc zero)) h = refl
-class-again (suc (suc (suc zero))) h = refl
-class-again (suc (suc (suc (suc zero)))) h = refl
-class-again (suc (suc (suc (suc (suc zero))))) h = refl
-class-again (suc (suc (suc (suc (suc (suc zero)))))) h = refl
-class-again (suc (suc (suc (suc (suc (suc (suc n))))))) h = absurd (omega arith)
+use Rattle.connection_words.proofs.FieldLaws.{bit-code, variable-code, priority-code, type-code, direction-code, trigger-code, class-code, flags-most}
 
 -- ---- the flags of a parameter word
 
@@ -126,10 +31,10 @@ flags-back p =
     let q : ℕ = priorityNumber (p .priority) in
     let t : ℕ = typeNumber (p .«connection_type») in
     let o : ℕ = bit (p .«redundant_owner») in
-    let a : v ≤ 1 = variable-most (p .«variable_length») in
-    let b : q ≤ 3 = priority-most (p .priority) in
-    let c : t ≤ 2 = type-most (p .«connection_type») in
-    let d : o ≤ 1 = bit-most (p .«redundant_owner») in
+    let a : v ≤ 1 = variable-code .most (p .«variable_length») in
+    let b : q ≤ 3 = priority-code .most (p .priority) in
+    let c : t ≤ 2 = type-code .most (p .«connection_type») in
+    let d : o ≤ 1 = bit-code .most (p .«redundant_owner») in
     let e : (v + 2 * q + 16 * t + 64 * o) % 2 ≡ v = omega arith in
     let i : (v + 2 * q + 16 * t + 64 * o) / 2 ≡ q + 8 * t + 32 * o = omega arith in
     let j : (v + 2 * q + 16 * t + 64 * o) / 8 ≡ 2 * t + 8 * o = omega arith in
@@ -142,16 +47,16 @@ flags-back p =
       reserved = rw j (omega arith);
       kind = rw g c;
       parts = λ size is.
-          rw (e, f, g, h, variable-back (p .«variable_length»), priority-back (p .priority), type-back (p .«connection_type»), bit-back (p .«redundant_owner»), is);
+          rw (e, f, g, h, variable-code .back (p .«variable_length»), priority-code .back (p .priority), type-code .back (p .«connection_type»), bit-code .back (p .«redundant_owner»), is);
     }
 
 flags-again : (size f : ℕ) → f ≤ 127 → f / 8 % 2 ≡ 0 → f / 16 % 4 ≤ 2 → flagsOf (parametersOf size f) ≡ f
 unfolding flagsOf parametersOf
 flags-again size f h r k =
-    let a : variableNumber (variableOf (f % 2)) ≡ f % 2 = variable-again (f % 2) (omega arith) in
-    let b : priorityNumber (priorityOf (f / 2 % 4)) ≡ f / 2 % 4 = priority-again (f / 2 % 4) (omega arith) in
-    let c : typeNumber (typeOf (f / 16 % 4)) ≡ f / 16 % 4 = type-again (f / 16 % 4) k in
-    let d : bit (eqb (f / 64 % 2) 1) ≡ f / 64 % 2 = bit-again (f / 64 % 2) (omega arith) in
+    let a : variableNumber (variableOf (f % 2)) ≡ f % 2 = variable-code .again (f % 2) (omega arith) in
+    let b : priorityNumber (priorityOf (f / 2 % 4)) ≡ f / 2 % 4 = priority-code .again (f / 2 % 4) (omega arith) in
+    let c : typeNumber (typeOf (f / 16 % 4)) ≡ f / 16 % 4 = type-code .again (f / 16 % 4) k in
+    let d : bit (eqb (f / 64 % 2) 1) ≡ f / 64 % 2 = bit-code .again (f / 64 % 2) (omega arith) in
     let i : f / 2 / 4 ≡ f / 8 = div-div-eq-div-mul f 2 4 in
     let j : f / 8 / 2 ≡ f / 16 = div-div-eq-div-mul f 8 2 in
     let l : f / 16 / 4 ≡ f / 64 = div-div-eq-div-mul f 16 4 in
@@ -202,9 +107,8 @@ pub parameters-were : (large : Bool) (w : ℕ) (p : ConnectionParameters) → re
     → KeepsAll (wordRules large w) × (parametersOf (w % unit large) (w / unit large) ≡ p)
 unfolding readParameters
 parameters-were large w p h =
-    let u = all-were (wordRules large w) (done (parametersOf (w % unit large) (w / unit large))) p h in
-    let e : done (parametersOf (w % unit large) (w / unit large)) ≡ done p = u .1 in
-    (u .0, cc)
+    let u = all-were _ _ p h in
+    (u .0, done-same (u .1))
 
 -- written of read
 pub record WordWas (large : Bool) (w : ℕ) (p : ConnectionParameters) : Type 0 where
@@ -240,7 +144,7 @@ module _ (d t c : ℕ) (a : d ≤ 1) (b : t ≤ 2) (e : c ≤ 6) where
 pub trigger-holds : (o : OpenOptions) → classTrigger o < 256
 unfolding classTrigger
 trigger-holds o =
-    omega (arith, direction-most (o .«transport_direction»), trigger-most (o .«transport_trigger»), class-most (o .«transport_class»))
+    omega (arith, direction-code .most (o .«transport_direction»), trigger-code .most (o .«transport_trigger»), class-code .most (o .«transport_class»))
 
 -- read of written
 pub transport-read-of-written : (o : OpenOptions) → readTransport (classTrigger o) ≡ done (transport (o .«transport_direction») (o .«transport_trigger») (o .«transport_class»))
@@ -249,24 +153,23 @@ transport-read-of-written o =
     let d : ℕ = directionNumber (o .«transport_direction») in
     let t : ℕ = triggerNumber (o .«transport_trigger») in
     let c : ℕ = classNumber (o .«transport_class») in
-    let i : d ≤ 1 = direction-most (o .«transport_direction») in
-    let j : t ≤ 2 = trigger-most (o .«transport_trigger») in
-    let k : c ≤ 6 = class-most (o .«transport_class») in
+    let i : d ≤ 1 = direction-code .most (o .«transport_direction») in
+    let j : t ≤ 2 = trigger-code .most (o .«transport_trigger») in
+    let k : c ≤ 6 = class-code .most (o .«transport_class») in
     let b : ℕ = 128 * d + 16 * t + c in
     let x : b / 16 % 8 ≡ t = byte-trigger d t c i j k in
     let y : b % 16 ≡ c = byte-class d t c i j k in
     let z : b / 128 ≡ d = byte-direction d t c i j k in
     all-keep (transportRules b) (done (transport (directionOf (b / 128)) (triggerOf (b / 16 % 8)) (classOf (b % 16)))) (rw x j, (rw y k, tt))
-    ∙ rw (x, y, z, direction-back (o .«transport_direction»), trigger-back (o .«transport_trigger»), class-back (o .«transport_class»))
+    ∙ rw (x, y, z, direction-code .back (o .«transport_direction»), trigger-code .back (o .«transport_trigger»), class-code .back (o .«transport_class»))
 
 -- a byte that was read kept each rule, and its parts are what was read
 pub transport-were : (b : ℕ) (t : Transport) → readTransport b ≡ done t
     → KeepsAll (transportRules b) × (transport (directionOf (b / 128)) (triggerOf (b / 16 % 8)) (classOf (b % 16)) ≡ t)
 unfolding readTransport
 transport-were b t h =
-    let u = all-were (transportRules b) (done (transport (directionOf (b / 128)) (triggerOf (b / 16 % 8)) (classOf (b % 16)))) t h in
-    let e : done (transport (directionOf (b / 128)) (triggerOf (b / 16 % 8)) (classOf (b % 16))) ≡ done t = u .1 in
-    (u .0, cc)
+    let u = all-were _ _ t h in
+    (u .0, done-same (u .1))
 
 -- written of read
 pub transport-written-of-read : (o : OpenOptions) (b : ℕ) → b < 256 → readTransport b ≡ done (transport (o .«transport_direction») (o .«transport_trigger») (o .«transport_class»))
@@ -278,7 +181,7 @@ transport-written-of-read o b l h =
     let x : directionOf (b / 128) ≡ o .«transport_direction» = cc in
     let y : triggerOf (b / 16 % 8) ≡ o .«transport_trigger» = cc in
     let z : classOf (b % 16) ≡ o .«transport_class» = cc in
-    rw (← x, ← y, ← z, direction-again (b / 128) (omega arith), trigger-again (b / 16 % 8) (u .0 .0), class-again (b % 16) (u .0 .1 .0)) (omega arith)
+    rw (← x, ← y, ← z, direction-code .again (b / 128) (omega arith), trigger-code .again (b / 16 % 8) (u .0 .0), class-code .again (b % 16) (u .0 .1 .0)) (omega arith)
 
 -- ---- document 01's card of the default Forward Open
 

@@ -33,23 +33,19 @@ module _ (kind : ℕ) (s : List ℕ) (at : ℕ) where
 
       pub item-cut : length s < at + 4 → refused 1 ≡ itemLength kind s at
       unfolding itemLength
-      item-cut g = let k = same-kind in search rules
+      item-cut g = search (rules, same-kind)
 
       module _ (n : ℕ) (of : n ≡ valueOf 2 (drop (at + 2) s)) (g : at + 4 ≤ length s) where
         pub item-missing : length s < at + 4 + n → refused 1 ≡ itemLength kind s at
         unfolding itemLength
-        item-missing l =
-            let k = same-kind in
-            let m : length s < at + 4 + valueOf 2 (drop (at + 2) s) = omega arith in
-            search rules
+        item-missing l = let m : length s < at + 4 + valueOf 2 (drop (at + 2) s) = omega arith in search (rules, same-kind)
 
         pub item-is : at + 4 + n ≤ length s → done n ≡ itemLength kind s at
         unfolding itemLength
         item-is l =
-            let k = same-kind in
             let m : at + 4 + valueOf 2 (drop (at + 2) s) ≤ length s = omega arith in
             let e : done n ≡ done (valueOf 2 (drop (at + 2) s)) = ap done of in
-            search rules
+            search (rules, same-kind)
 
 pub item-most : (n : ℕ) → Fits w16 n → n ≤ 65535
 item-most n f = omega (arith, f .fits)
@@ -159,21 +155,15 @@ module _ (s : List ℕ) where
 
       pub envelope-cut : length s < 4 → refused 1 ≡ readEnvelope s
       unfolding readEnvelope
-      envelope-cut g = let k = two in search rules
+      envelope-cut g = search (rules, two)
 
       module _ (t : ℕ) (of : t ≡ valueOf 2 (drop 2 s)) (g : 4 ≤ length s) (z : Answer Held) where
         pub envelope-connected : t ≡ connectedAddress → z ≡ connectedAt s → z ≡ readEnvelope s
         unfolding readEnvelope
-        envelope-connected l e =
-            let k = two in
-            let y = pick-here (valueOf 2 (drop 2 s)) connectedAddress (connectedAt s) (unconnectedAt s) z (sym of ∙ l) e in
-            search rules
+        envelope-connected l e = let y = pick-here (valueOf 2 (drop 2 s)) connectedAddress (connectedAt s) (unconnectedAt s) z (sym of ∙ l) e in search (rules, two)
 
         pub envelope-unconnected : (t ≡ connectedAddress → ⊥) → z ≡ unconnectedAt s → z ≡ readEnvelope s
         unfolding readEnvelope
-        envelope-unconnected l e =
-            let k = two in
-            let y = pick-past (valueOf 2 (drop 2 s)) connectedAddress (connectedAt s) (unconnectedAt s) z (λ i. l (of ∙ i)) e in
-            search rules
+        envelope-unconnected l e = let y = pick-past (valueOf 2 (drop 2 s)) connectedAddress (connectedAt s) (unconnectedAt s) z (λ i. l (of ∙ i)) e in search (rules, two)
 
 pub ruleset envelope-laws = (envelope-short, envelope-count, envelope-cut, envelope-connected, envelope-unconnected)

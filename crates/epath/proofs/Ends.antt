@@ -3,7 +3,6 @@ use Prim.Native.Nat.{ℕ, _+_, _%_, _≤_, _<_}
 use mathlib.Core.Path.{_≡_, sym, ap, _∙_}
 use mathlib.Core.List.{List}
 use native.Mathlib.Omega.{arith}
-use native.Mathlib.Nat.{add-zero}
 use lib.ListN.{length, getD, drop, length-drop}
 use lib.Seq.{getD-drop}
 use mir.Val.{Fits}
@@ -11,6 +10,7 @@ use mir.Syntax.{w8, w64}
 use Rattle.wire.specs.Refusals.{number}
 use Rattle.wire.specs.declared.Refusal.{Refusal}
 use Rattle.wire.specs.Answers.{Answer, done, refused}
+use Rattle.wire.proofs.Numbers.{byte-here}
 use Rattle.epath_sizes.specs.Limits.{maxPlace, farPortCode, classCode, instanceCode, elementCode, attributeCode, symbolCode}
 use Rattle.epath_sizes.specs.declared.Segment.{Segment}
 use Rattle.epath_sizes.specs.declared.Segment.the-variants.{Symbol}
@@ -40,23 +40,20 @@ module _ (s : List ℕ) (at : ℕ) where
     two : 2 ≤ length (drop at s)
     two = simp length-drop (omega arith)
 
-    first : getD (drop at s) 0 0 ≡ getD s at 0
-    first = getD-drop at s 0 0 ∙ rw (add-zero at)
-
     pub end-class : getD s at 0 ≡ classCode → done (at + 2) ≡ nextIn s at
-    end-class e = ends _ (class-front (drop at s) two (first ∙ e))
+    end-class e = ends _ (class-front (drop at s) two (byte-here s at ∙ e))
 
     pub end-instance : getD s at 0 ≡ instanceCode → done (at + 2) ≡ nextIn s at
-    end-instance e = ends _ (instance-front (drop at s) two (first ∙ e))
+    end-instance e = ends _ (instance-front (drop at s) two (byte-here s at ∙ e))
 
     pub end-attribute : getD s at 0 ≡ attributeCode → done (at + 2) ≡ nextIn s at
-    end-attribute e = ends _ (attribute-front (drop at s) two (first ∙ e))
+    end-attribute e = ends _ (attribute-front (drop at s) two (byte-here s at ∙ e))
 
     pub end-element : getD s at 0 ≡ elementCode → done (at + 2) ≡ nextIn s at
-    end-element e = ends _ (element-front (drop at s) two (first ∙ e))
+    end-element e = ends _ (element-front (drop at s) two (byte-here s at ∙ e))
 
     pub end-port : getD s at 0 < farPortCode → done (at + 2) ≡ nextIn s at
-    end-port l = ends _ (port-front (drop at s) two (rw first l))
+    end-port l = ends _ (port-front (drop at s) two (rw (byte-here s at) l))
 
     -- ---- symbols
     module _ (c : getD s at 0 ≡ symbolCode) where
@@ -70,7 +67,7 @@ module _ (s : List ℕ) (at : ℕ) where
       x = Symbol (record { start = 2; len = n })
 
       part : (z : Answer Front) → z ≡ readPart x (2 + n) (drop at s) → endOf (moved at z) ≡ nextIn s at
-      part z p = ends z (symbol-front (drop at s) two n z (sym (getD-drop at s 1 0)) (first ∙ c) p)
+      part z p = ends z (symbol-front (drop at s) two n z (sym (getD-drop at s 1 0)) (byte-here s at ∙ c) p)
 
       pad : getD s end 0 ≡ getD (drop at s) (2 + n) 0
       pad = let g : end ≡ at + (2 + n) = omega arith in rw g (sym (getD-drop at s (2 + n) 0))

@@ -2,14 +2,14 @@
 use Prim.Native.Nat.{ℕ, zero, suc, _+_, _-_, _≤_, _<_}
 use mathlib.Core.Path.{_≡_, refl, sym, ap, _∙_, subst}
 use mathlib.Core.List.{List, [], _∷_, _++_, map}
-use mathlib.Core.Logic.{_⊎_, ⊎-elim}
+use mathlib.Core.Logic.{⊎-elim}
 use native.Mathlib.Omega.{arith}
 use lib.ListN.{length, drop, length-drop, take-append-drop, drop-of-length-le}
 use lib.Seq.{drop-drop, drop-append-seam}
 use Rattle.wire.specs.Numbers.{Bytes}
 use Rattle.wire.specs.Answers.{Answer, done, refused}
 use Rattle.wire.proofs.Numbers.{below-or, bytes-drop}
-use Rattle.wire.proofs.Rules.{never}
+use Rattle.wire.proofs.Rules.{never, done-same}
 use Rattle.epath_sizes.specs.Limits.{maxSegments}
 use Rattle.epath_sizes.specs.Segments.{Seg, encodeSeg, encode, Fine, AllFine, norm}
 use Rattle.epath_sizes.specs.Lists.{meaning, shifted}
@@ -20,7 +20,7 @@ use Rattle.epath_segment.specs.Reads.{Front, front, readSeg, parsed, seen, pars
 use Rattle.epath.specs.Paths.{before, walk, sees, parsePath}
 use Rattle.epath_segment.proofs.ReadLaws.{front-short}
 use Rattle.epath_segment.proofs.Got.{Got, got}
-use Rattle.epath_segment.proofs.Back.{read-written}
+use Rattle.epath_segment.proofs.Back.{segment-read-of-written}
 use Rattle.epath.proofs.Walks.{walk-ends, walk-full, walk-stops, walk-goes}
 
 -- ---- one segment
@@ -49,9 +49,6 @@ pub segment-written-of-read : (t : List ℕ) (x : Seg) (n : ℕ) → Bytes t →
 segment-written-of-read t x n b h =
     let s : Seen t (readSeg t) x n = seen-parsed t (readSeg t) x n h in
     subst (λ (z : Seg). Wrote t z n) (s .means) (wrote t (s .y) n (got t (s .y) n b (s .is)))
-
-pub segment-read-of-written : (x : Seg) → Fine x → (rest : List ℕ) → parse (encodeSeg x ++ rest) ≡ done (parsed (norm x) (length (encodeSeg x)))
-segment-read-of-written x f rest = read-written x f rest
 
 -- ---- places and bytes
 
@@ -95,7 +92,7 @@ back [] left s at f l e =
 back (x ∷ xs) zero s at f l e = absurd (omega arith)
 back (x ∷ xs) (suc left) s at f l e =
     let n : ℕ = length (encodeSeg x) in
-    let p : parse (drop at s) ≡ done (parsed (norm x) n) = rw e (read-written x (f .0) (encode xs)) in
+    let p : parse (drop at s) ≡ done (parsed (norm x) n) = rw e (segment-read-of-written x (f .0) (encode xs)) in
     let v : Seen (drop at s) (readSeg (drop at s)) (norm x) n = seen-parsed (drop at s) (readSeg (drop at s)) (norm x) n p in
     let g : 0 < length s - at = rw (length-drop at s) at (some (drop at s) (norm x) n p) in
     let r : drop (at + n) s ≡ encode xs = sym (drop-drop n at s) ∙ rw e (drop-append-seam (encodeSeg x) (encode xs)) in
@@ -120,8 +117,7 @@ with-listed x (refused k) xs h go = never h
 
 ended : (left : ℕ) (s : List ℕ) (at : ℕ) (xs : List Seg) → length s ≤ at → sees s (walk left s at) ≡ done xs → Written left (drop at s) xs
 ended left s at xs h e =
-    let f : done [] ≡ done xs = sym (ap (sees s) (walk-ends s at left h)) ∙ e in
-    let g : [] ≡ xs = cc in
+    let g : [] ≡ xs = done-same (sym (ap (sees s) (walk-ends s at left h)) ∙ e) in
     rw (← g) (record { bytes = drop-of-length-le s h; fine = tt; normal = refl; few = omega arith })
 
 stepped : (left : ℕ) (s : List ℕ) (at : ℕ) (xs : List Seg) → Bytes s → at < length s → (f : Answer Front) → readSeg (drop at s) ≡ f
@@ -187,5 +183,4 @@ one-input s t xs b c p q = written-of-read s xs b p .bytes ∙ sym (written-of-r
 
 pub one-list : (xs ys : List Seg) → AllFine xs → AllFine ys → length xs ≤ maxSegments → length ys ≤ maxSegments → encode xs ≡ encode ys → map norm xs ≡ map norm ys
 one-list xs ys f g l m e =
-    let h : done (map norm xs) ≡ done (map norm ys) = sym (read-of-written xs f l) ∙ ap parsePath e ∙ read-of-written ys g m in
-    cc
+    done-same (sym (read-of-written xs f l) ∙ ap parsePath e ∙ read-of-written ys g m)

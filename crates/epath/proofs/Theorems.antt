@@ -6,15 +6,15 @@ use native.Mathlib.Omega.{arith}
 use lib.ListN.{length, take, drop, length-append, length-replicate, length-map}
 use lib.Seq.{sets-eq, take-append-seam}
 use Rattle.wire.specs.Numbers.{Bytes}
-use Rattle.wire.specs.Answers.{Answer, done, refused, over, plus}
+use Rattle.wire.specs.Answers.{Answer, done, refused, plus}
 use Rattle.wire.specs.Folds.{sizes}
-use Rattle.wire.proofs.Rules.{never, all-keep}
+use Rattle.wire.proofs.Rules.{never, done-same, all-keep}
 use Rattle.wire.proofs.Answers.{room-was}
 use Rattle.wire.proofs.Stores.{part-length}
 use Rattle.epath_sizes.specs.Limits.{maxSegments, maxSymbol, maxLink}
 use Rattle.epath_sizes.specs.Segments.{Seg, encodeSeg, encode, Fine, AllFine, norm}
 use Rattle.epath_sizes.specs.Lists.{meaning, slotsOf, segs, segsOf, blank, blanks, pathOf, startOf, lenOf}
-use Rattle.epath_sizes.specs.Sizes.{segmentRules, segmentSize, pathSize, Good, AllGoodIn}
+use Rattle.epath_sizes.specs.Sizes.{segmentSize, pathSize, Good, AllGoodIn}
 use Rattle.epath.specs.Paths.{walk, countOf, listOf, PathFound, readPath, checkPath, sees, parsePath}
 use Rattle.epath_sizes.specs.declared.Segment.{Segment}
 use Rattle.epath_sizes.specs.declared.Segment.the-variants.{Symbol, Class, Instance, Attribute, Element, Port}
@@ -88,8 +88,7 @@ checked s n h = go (walk maxSegments s 0) refl
   where
     go : (w : Answer (List Slot)) → walk maxSegments s 0 ≡ w → Checked s n
     go (done l) e =
-        let f : done (length l) ≡ done n = sym (ap countOf e) ∙ h in
-        let g : length l ≡ n = cc in
+        let g : length l ≡ n = done-same (sym (ap countOf e) ∙ h) in
         record { list = segs s l; is = ap (sees s) e; many = length-segs s l ∙ g }
     go (refused k) e = never (sym (ap countOf e) ∙ h)
 
@@ -132,7 +131,7 @@ unfolding segmentSize
 good-sizes s [] g = refl
 good-sizes s (x ∷ l) g =
     let bs : List ℕ = encodeSeg (meaning s (x .segment)) in
-    ap (λ (y : Answer ℕ). plus y (sizes (sizeIn s) l)) (all-keep (segmentRules (length s) (x .segment)) (done (length bs)) (g .0))
+    ap (λ (y : Answer ℕ). plus y (sizes (sizeIn s) l)) (all-keep _ _ (g .0))
     ∙ ap (λ (y : Answer ℕ). plus (done (length bs)) y) (good-sizes s l (g .1))
     ∙ ap done (sym (length-append bs (encode (segs s l))))
 
@@ -146,7 +145,7 @@ slots-are l h =
 good-size : (s : List ℕ) (l : List Slot) → length l ≤ maxSegments → AllGoodIn s l → pathSize s (pathOf l) ≡ done (length (encode (segs s l)))
 unfolding pathSize
 good-size s l few g =
-    all-keep (over (length l) maxSegments 3 ∷ []) (sizes (sizeIn s) (slotsOf (pathOf l))) (few, tt)
+    all-keep _ _ (few, tt)
     ∙ ap (sizes (sizeIn s)) (slots-are l few)
     ∙ good-sizes s l g
 

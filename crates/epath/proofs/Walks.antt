@@ -46,6 +46,25 @@ module _ (s : List ℕ) (at : ℕ) where
   unfolding walk
   walk-goes left x next h e = simp (lt-ltb _ _ h, e, walk)
 
+-- ---- what a loop has left: whatever it makes of the walk from here on is what it makes of the whole
+module _ {B : Type 0} (s : List ℕ) (count at : ℕ) (f : Answer (List Slot) → B) (whole : B) (rest : f (walk (maxSegments - count) s at) ≡ whole) where
+  left-ends : length s ≤ at → f (done []) ≡ whole
+  left-ends h = ap f (sym (walk-ends s at (maxSegments - count) h)) ∙ rest
+
+  module _ (h : at < length s) where
+    left-full : count ≡ maxSegments → f (refused 3) ≡ whole
+    left-full c = let z : 0 ≡ maxSegments - count = omega arith in ap f (sym (walk-full s at h)) ∙ ap (λ (k : ℕ). f (walk k s at)) z ∙ rest
+
+    module _ (c : count ≡ maxSegments → ⊥) (few : count ≤ maxSegments) where
+      one-less : f (walk (suc (maxSegments - (count + 1))) s at) ≡ whole
+      one-less = let e : suc (maxSegments - (count + 1)) ≡ maxSegments - count = omega arith in ap (λ (k : ℕ). f (walk k s at)) e ∙ rest
+
+      left-stops : (k : ℕ) → moved at (readSeg (drop at s)) ≡ refused k → f (refused k) ≡ whole
+      left-stops k m = ap f (sym (walk-stops s at (maxSegments - (count + 1)) k h m)) ∙ one-less
+
+      left-goes : (x : Segment) (next : ℕ) → moved at (readSeg (drop at s)) ≡ done (front x next) → f (before x (walk (maxSegments - (count + 1)) s next)) ≡ whole
+      left-goes x next m = ap f (sym (walk-goes s at (maxSegments - (count + 1)) x next h m)) ∙ one-less
+
 -- ---- counting
 abbrev pub adds : ℕ → Answer (List Slot) → Answer ℕ
 adds n (done l) = done (n + length l)
@@ -83,9 +102,6 @@ pub record Counting (s : List ℕ) (count at : ℕ) : Type 0 where
   pub rest : adds count (walk (maxSegments - count) s at) ≡ checkPath s
 
 module _ (s : List ℕ) (count at : ℕ) where
-  one-less : (count ≡ maxSegments → ⊥) → count ≤ maxSegments → maxSegments - count ≡ suc (maxSegments - (count + 1))
-  one-less h l = omega arith
-
   -- what a segment's reader asks
   pub stands-there : Stands s count at → at ≤ length s
   stands-there w = w .there
@@ -98,21 +114,15 @@ module _ (s : List ℕ) (count at : ℕ) where
 
   module _ (w : Counting s count at) where
     pub counting-full : at < length s → count ≡ maxSegments → refused 3 ≡ checkPath s
-    counting-full h c =
-        let z : maxSegments - count ≡ 0 = omega arith in
-        ap (adds count) (sym (walk-full s at h)) ∙ ap (λ (k : ℕ). adds count (walk k s at)) (sym z) ∙ w .rest
+    counting-full = left-full s count at (adds count) (checkPath s) (w .rest)
 
     pub counting-ends : length s ≤ at → done count ≡ checkPath s
-    counting-ends h = ap done (sym (add-zero count)) ∙ ap (adds count) (sym (walk-ends s at (maxSegments - count) h)) ∙ w .rest
+    counting-ends h = ap done (sym (add-zero count)) ∙ left-ends s count at (adds count) (checkPath s) (w .rest) h
 
     module _ (r : Counted) (p : paperCount r ≡ nextIn s at) (h : at < length s) (c : count ≡ maxSegments → ⊥) where
       pub counting-stops : (e : Refusal) → r ≡ NotCounted e → refused (number e) ≡ checkPath s
       unfolding nextIn
-      counting-stops e q =
-          let m : moved at (readSeg (drop at s)) ≡ refused (number e) = stopped _ _ (sym p ∙ rw q) in
-          ap (adds count) (sym (walk-stops s at (maxSegments - (count + 1)) (number e) h m))
-          ∙ ap (λ (k : ℕ). adds count (walk k s at)) (sym (one-less c (w .stands .few)))
-          ∙ w .rest
+      counting-stops e q = left-stops s count at (adds count) (checkPath s) (w .rest) h c (w .stands .few) (number e) (stopped _ _ (sym p ∙ rw q))
 
       pub counting-more : (next : ℕ) → r ≡ Count next → ((k : ℕ) → Fits w8 (getD s k 0)) → Counting s (count + 1) next
       unfolding nextIn
@@ -123,9 +133,7 @@ module _ (s : List ℕ) (count at : ℕ) where
             stands = stands-more (g .x) next (w .stands) c (rw (g .is) at l);
             rest =
                 sym (adds-one count (g .x) (walk (maxSegments - (count + 1)) s next))
-                ∙ ap (adds count) (sym (walk-goes s at (maxSegments - (count + 1)) (g .x) next h (g .is)))
-                ∙ ap (λ (k : ℕ). adds count (walk k s at)) (sym (one-less c (w .stands .few)))
-                ∙ w .rest;
+                ∙ left-goes s count at (adds count) (checkPath s) (w .rest) h c (w .stands .few) (g .x) next (g .is);
           }
 
 pub counting-first : (s : List ℕ) → Counting s 0 0
@@ -162,22 +170,16 @@ pub record Filling (s : List ℕ) (slots : List Slot) (count at : ℕ) : Type 0 
 
 module _ (s : List ℕ) (slots : List Slot) (count at : ℕ) (w : Filling s slots count at) where
   pub filling-full : (z : PathFound) → at < length s → count ≡ maxSegments → z ≡ nothing 3 → z ≡ readPath s
-  filling-full y h c e =
-      let z : maxSegments - count ≡ 0 = omega arith in
-      e ∙ ap (fills slots count) (sym (walk-full s at h)) ∙ ap (λ (k : ℕ). fills slots count (walk k s at)) (sym z) ∙ w .rest
+  filling-full z h c e = e ∙ left-full s count at (fills slots count) (readPath s) (w .rest) h c
 
   pub filling-ends : length s ≤ at → record { answer = done count; path = record { slots = slots; count = count } } ≡ readPath s
   filling-ends h =
       let e : fills slots count (done []) ≡ record { answer = done count; path = record { slots = slots; count = count } } = rw (add-zero count) in
-      sym e ∙ ap (fills slots count) (sym (walk-ends s at (maxSegments - count) h)) ∙ w .rest
+      sym e ∙ left-ends s count at (fills slots count) (readPath s) (w .rest) h
 
   module _ (r : SegmentRead) (p : Placed s at (paperFront r)) (h : at < length s) (c : count ≡ maxSegments → ⊥) where
     pub filling-stops : (z : PathFound) (e : Refusal) → r ≡ Refused e → z ≡ nothing (number e) → z ≡ readPath s
-    filling-stops z e q f =
-        f
-        ∙ ap (fills slots count) (sym (walk-stops s at (maxSegments - (count + 1)) (number e) h (sym (p .is) ∙ rw q)))
-        ∙ ap (λ (k : ℕ). fills slots count (walk k s at)) (sym (one-less s count at c (w .stands .few)))
-        ∙ w .rest
+    filling-stops z e q f = f ∙ left-stops s count at (fills slots count) (readPath s) (w .rest) h c (w .stands .few) (number e) (sym (p .is) ∙ rw q)
 
     pub filling-more : (x : Segment) (next : ℕ) → r ≡ Found x next → Filling s (set slots count (record { segment = x })) (count + 1) next
     filling-more x next q =
@@ -186,9 +188,7 @@ module _ (s : List ℕ) (slots : List Slot) (count at : ℕ) (w : Filling s slot
           long = length-set slots count (record { segment = x }) ∙ w .long;
           rest =
               sym (fills-one slots count x (walk (maxSegments - (count + 1)) s next))
-              ∙ ap (fills slots count) (sym (walk-goes s at (maxSegments - (count + 1)) x next h (sym (p .is) ∙ rw q)))
-              ∙ ap (λ (k : ℕ). fills slots count (walk k s at)) (sym (one-less s count at c (w .stands .few)))
-              ∙ w .rest;
+              ∙ left-goes s count at (fills slots count) (readPath s) (w .rest) h c (w .stands .few) x next (sym (p .is) ∙ rw q);
         }
 
 pub filling-first : (s : List ℕ) → Filling s blanks 0 0

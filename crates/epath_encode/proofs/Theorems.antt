@@ -59,7 +59,7 @@ module _ (pool : List ℕ) (p q r : Path) (few : r .count ≤ maxSegments) (is :
   pub joined-size : (m n : ℕ) → pathSize pool p ≡ done m → pathSize pool q ≡ done n → pathSize pool r ≡ done (m + n)
   unfolding pathSize
   joined-size m n e f =
-      all-keep (over (r .count) maxSegments 3 ∷ []) (sizes (sizeIn pool) (slotsOf r)) (few, tt)
+      all-keep _ _ (few, tt)
       ∙ ap (sizes (sizeIn pool)) is
       ∙ sizes-append (sizeIn pool) (slotsOf p) (slotsOf q)
       ∙ rw (path-sized pool p m e .sum, path-sized pool q n f .sum)

@@ -188,20 +188,8 @@ pub ruleset end-laws = (symbol-head-room, symbol-room, stored-symbol, head-fits,
 
 -- ---- a segment
 module _ (pool : List ℕ) (s : Segment) (old new : List ℕ) (r : ℕ) where
-  of-kind : (t : Segment) → s ≡ t → Put (encodeSeg (meaning pool t)) old r new → Put (encodeSeg (meaning pool s)) old r new
+  pub of-kind : (t : Segment) → s ≡ t → Put (encodeSeg (meaning pool t)) old r new → Put (encodeSeg (meaning pool s)) old r new
   of-kind t e h = subst (λ (x : Segment). Put (encodeSeg (meaning pool x)) old r new) (sym e) h
-
-  pub put-class : (v : ℕ) → s ≡ Class v → Put (logical classCode v) old r new → Put (encodeSeg (meaning pool s)) old r new
-  put-class v e h = of-kind (Class v) e h
-
-  pub put-instance : (v : ℕ) → s ≡ Instance v → Put (logical instanceCode v) old r new → Put (encodeSeg (meaning pool s)) old r new
-  put-instance v e h = of-kind (Instance v) e h
-
-  pub put-attribute : (v : ℕ) → s ≡ Attribute v → Put (logical attributeCode v) old r new → Put (encodeSeg (meaning pool s)) old r new
-  put-attribute v e h = of-kind (Attribute v) e h
-
-  pub put-element : (v : ℕ) → s ≡ Element v → Put (logical elementCode v) old r new → Put (encodeSeg (meaning pool s)) old r new
-  put-element v e h = of-kind (Element v) e h
 
   pub put-symbol : (y : SymbolSegment) (bs : List ℕ) → s ≡ Symbol y → bs ≡ part pool (y .start) (y .len) → Put (encodeSeg (symbol bs)) old r new → Put (encodeSeg (meaning pool s)) old r new
   put-symbol y bs e f h = of-kind (Symbol y) e (subst (λ (x : List ℕ). Put (encodeSeg (symbol x)) old r new) f h)
@@ -252,7 +240,7 @@ module _ (pool : List ℕ) (s : Segment) (room : ℕ) (r : length (encodeSeg (me
   pub room-port : (q : PortSegment) (bs : List ℕ) → s ≡ Port q → bs ≡ part pool (q .start) (q .len) → length (encodeSeg (port (q .port) bs)) ≤ room
   room-port q bs e f = subst (λ (x : List ℕ). length (encodeSeg (port (q .port) x)) ≤ room) (sym f) (in-kind (Port q) e)
 
-pub ruleset segment-laws = (put-class, put-instance, put-attribute, put-element, put-symbol, put-port, symbol-in, link-in, symbol-short, link-short, room-class, room-instance, room-attribute, room-element, room-symbol, room-port)
+pub ruleset segment-laws = (of-kind, put-symbol, put-port, symbol-in, link-in, symbol-short, link-short, room-class, room-instance, room-attribute, room-element, room-symbol, room-port)
 
 -- ---- a segment that was sized
 module _ (pool : List ℕ) (s : Segment) (w : Wrote) (n : ℕ) (is : paperSize w ≡ segmentSize pool s) (h : w ≡ Size n) where

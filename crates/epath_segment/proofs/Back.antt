@@ -7,7 +7,7 @@ use native.Mathlib.Omega.{arith}
 use lib.ListN.{length, getD, take, drop, length-append}
 use lib.Seq.{take-append-seam, drop-at, getD-append-seam}
 use Rattle.wire.specs.Numbers.{valueOf, lowFirst}
-use Rattle.wire.specs.Answers.{Answer, done, under, other}
+use Rattle.wire.specs.Answers.{Answer, done}
 use Rattle.wire.proofs.Numbers.{value-low, low-length, below-or}
 use Rattle.wire.proofs.Rules.{all-keep}
 use Rattle.epath_sizes.specs.Limits.{maxLink, nearPort, farPortCode, longLink, elementCode, symbolCode}
@@ -18,45 +18,21 @@ use Rattle.epath_segment.specs.declared.decode.Form.{Form}
 use Rattle.epath_segment.specs.declared.decode.Form.the-variants.{Port as fPort, Symbol as fSymbol, Narrow, Wide, Widest}
 use Rattle.epath_sizes.specs.declared.Segment.{Segment}
 use Rattle.epath_sizes.specs.declared.Segment.the-variants.{Symbol, Element, Port}
-use Rattle.epath_segment.specs.Reads.{Front, front, formOf, lookup, made, readNarrow, readWide, readPart, readSymbol, readLink, readPortNumber, readAs, readSeg, parsed, parse}
-use Rattle.epath_segment.proofs.ReadLaws.{form-port, part-even, part-odd, symbol-is, link-is, number-low, number-is, port-one, port-is, front-is}
+use Rattle.epath_segment.specs.Reads.{Front, front, formOf, made, readNarrow, readWide, readPart, readSymbol, readLink, readPortNumber, readAs, readSeg, parsed, parse}
+use Rattle.epath_segment.proofs.ReadLaws.{codeOf, form-port, form-symbol, form-narrow, form-wide, form-widest, part-even, part-odd, symbol-is, link-is, number-low, number-is, port-one, port-is, front-is}
 use Rattle.epath_sizes.proofs.Forms.{number-one, number-two, number-four, head-short, head-long, head-escaped, head-both, padded-even, padded-odd}
-use Rattle.epath_segment.proofs.Begins.{codeOf}
 
 near-or : (p : ℕ) → (p ≤ nearPort) ⊎ (nearPort < p)
 near-or p = ⊎-elim (λ (h : nearPort < p). inr h) (λ (h : p ≤ nearPort). inl h) (below-or nearPort p)
 
--- ---- the first byte
-form-narrow : (k : Kind) → formOf (codeOf k) ≡ Narrow k
-unfolding formOf lookup
-form-narrow kClass = refl
-form-narrow kInstance = refl
-form-narrow kAttribute = refl
-form-narrow kElement = refl
-
-form-wide : (k : Kind) → formOf (codeOf k + 1) ≡ Wide k
-unfolding formOf lookup
-form-wide kClass = refl
-form-wide kInstance = refl
-form-wide kAttribute = refl
-form-wide kElement = refl
-
-form-widest : formOf (elementCode + 2) ≡ Widest
-unfolding formOf lookup
-form-widest = refl
-
-form-symbol : formOf symbolCode ≡ fSymbol
-unfolding formOf lookup
-form-symbol = refl
-
 -- what a first byte with a form says
-starts : (b : ℕ) (t : List ℕ) (f : Form) (z : Answer Front) → formOf b ≡ f → readAs f b (b ∷ t) ≡ z → readSeg (b ∷ t) ≡ z
-starts b t f z e h = sym (front-is (b ∷ t) b (formOf b) f z refl refl e (omega arith) (sym h))
+starts : (b : ℕ) (t : List ℕ) (f : Form) (z : Answer Front) → f ≡ formOf b → readAs f b (b ∷ t) ≡ z → readSeg (b ∷ t) ≡ z
+starts b t f z e h = sym (front-is (b ∷ t) b f f z refl e refl (omega arith) (sym h))
 
 -- ---- numbers
 narrow-back : (make : ℕ → Segment) (c v : ℕ) (rest : List ℕ) → readNarrow make (c ∷ v ∷ rest) ≡ done (front (make v) 2)
 unfolding readNarrow
-narrow-back make c v rest = all-keep (under (length (c ∷ v ∷ rest)) 2 1 ∷ []) (done (front (make v) 2)) (omega arith, tt)
+narrow-back make c v rest = all-keep _ _ (omega arith, tt)
 
 -- a wide form, over its width
 wide-back : (make : ℕ → Segment) (w least c v : ℕ) (rest : List ℕ) → least ≤ v → v < 256 ^ w → readWide make w least (c ∷ 0 ∷ (lowFirst w v ++ rest)) ≡ done (front (make v) (2 + w))
@@ -66,20 +42,20 @@ wide-back make w least c v rest l h =
     let m : ℕ = valueOf w (lowFirst w v ++ rest) in
     let e : m ≡ v = value-low w v rest h in
     let long : 2 + w ≤ length t = omega (arith, length-append (lowFirst w v) rest, low-length w v) in
-    all-keep (under (length t) 2 1 ∷ other 0 0 5 ∷ under (length t) (2 + w) 1 ∷ under m least 5 ∷ []) (done (front (make m) (2 + w)))
+    all-keep _ _
     (omega arith, (refl, (long, (omega arith, tt))))
     ∙ rw e
 
 number-back : (k : Kind) (v : ℕ) (rest : List ℕ) → v < 65536 → readSeg (logical (codeOf k) v ++ rest) ≡ done (front (made k v) (length (logical (codeOf k) v)))
 number-back k v rest h = ⊎-elim
-    (λ (l : v < 256). rw (number-one (codeOf k) v l) (starts (codeOf k) (v ∷ rest) (Narrow k) _ (form-narrow k) (narrow-back (made k) (codeOf k) v rest)))
-    (λ (l : 256 ≤ v). rw (number-two (codeOf k) v l h) (starts (codeOf k + 1) (0 ∷ (lowFirst 2 v ++ rest)) (Wide k) _ (form-wide k) (wide-back (made k) 2 256 (codeOf k + 1) v rest l h)))
+    (λ (l : v < 256). rw (number-one (codeOf k) v l) (starts (codeOf k) (v ∷ rest) (Narrow k) _ (form-narrow _ k refl) (narrow-back (made k) (codeOf k) v rest)))
+    (λ (l : 256 ≤ v). rw (number-two (codeOf k) v l h) (starts (codeOf k + 1) (0 ∷ (lowFirst 2 v ++ rest)) (Wide k) _ (form-wide _ k refl) (wide-back (made k) 2 256 (codeOf k + 1) v rest l h)))
     (below-or v 256)
 
 element-back : (v : ℕ) (rest : List ℕ) → v < 4294967296 → readSeg (logical elementCode v ++ rest) ≡ done (front (Element v) (length (logical elementCode v)))
 element-back v rest h = ⊎-elim
     (λ (l : v < 65536). number-back kElement v rest l)
-    (λ (l : 65536 ≤ v). rw (number-four elementCode v l) (starts (elementCode + 2) (0 ∷ (lowFirst 4 v ++ rest)) Widest _ form-widest (wide-back Element 4 65536 (elementCode + 2) v rest l h)))
+    (λ (l : 65536 ≤ v). rw (number-four elementCode v l) (starts (elementCode + 2) (0 ∷ (lowFirst 4 v ++ rest)) Widest _ (form-widest _ refl) (wide-back Element 4 65536 (elementCode + 2) v rest l h)))
     (below-or v 65536)
 
 -- ---- bytes with a pad
@@ -117,7 +93,7 @@ module _ (bs rest : List ℕ) where
 
   sym-starts : {z : Answer Front} → readSymbol (padded (symbolCode ∷ length bs ∷ bs) ++ rest) ≡ z → readSeg (padded (symbolCode ∷ length bs ∷ bs) ++ rest) ≡ z
   unfolding padded
-  sym-starts {z} h = starts symbolCode (length bs ∷ ((bs ++ pad (suc (suc (length bs)))) ++ rest)) fSymbol z form-symbol h
+  sym-starts {z} h = starts symbolCode (length bs ∷ ((bs ++ pad (suc (suc (length bs)))) ++ rest)) fSymbol z (form-symbol _ refl) h
 
   symbol-back : readSeg (padded (symbolCode ∷ length bs ∷ bs) ++ rest) ≡ done (front (Symbol (record { start = 2; len = length bs })) (length (padded (symbolCode ∷ length bs ∷ bs))))
   symbol-back =
@@ -147,7 +123,7 @@ module _ (p : ℕ) (link rest : List ℕ) where
       let z : p % longLink ≡ p = omega arith in
       let g : readLink p 1 1 t ≡ Back (p ∷ []) 1 = subst (λ (k : ℕ). readLink p 1 k t ≡ Back (p ∷ []) 1) l (link-back (p ∷ []) 1 refl) in
       let n : readPortNumber (p % longLink) 1 1 t ≡ Back (p ∷ []) 1 = rw z (sym (number-low t p 1 1 _ (omega arith) (sym g))) in
-      starts p _ fPort _ (sym (form-port p (omega arith))) (sym (port-one t p _ (omega arith) (sym n)))
+      starts p _ fPort _ (form-port p (omega arith)) (sym (port-one t p _ (omega arith) (sym n)))
 
   back-escaped : nearPort < p → length link ≡ 1 → Ported (farPortCode ∷ farPort p) 3
   unfolding padded
@@ -157,7 +133,7 @@ module _ (p : ℕ) (link rest : List ℕ) where
       let z : farValue (p / 256) (p % 256) ≡ p = omega arith in
       let g : readLink p 3 1 t ≡ Back hd 3 = (subst (λ (k : ℕ). readLink p 3 k t ≡ Back hd 3) l (link-back hd 3 refl)) in
       let n : readPortNumber farPortCode 1 1 t ≡ Back hd 3 = sym (number-is t farPortCode 1 1 p (sym z) (omega arith) (omega arith) _ h (sym g)) in
-      starts farPortCode _ fPort _ (sym (form-port farPortCode (omega arith))) (sym (port-one t farPortCode _ (omega arith) (sym n)))
+      starts farPortCode _ fPort _ (form-port farPortCode (omega arith)) (sym (port-one t farPortCode _ (omega arith) (sym n)))
 
   back-long : p ≤ nearPort → 2 ≤ length link → length link ≤ maxLink → Ported ((p + longLink) ∷ length link ∷ []) 2
   unfolding padded
@@ -166,7 +142,7 @@ module _ (p : ℕ) (link rest : List ℕ) where
       let t : List ℕ = padded (hd ++ link) ++ rest in
       let z : (p + longLink) % longLink ≡ p = omega arith in
       let n : readPortNumber ((p + longLink) % longLink) 2 (length link) t ≡ Back hd 2 = rw z (sym (number-low t p 2 (length link) _ (omega arith) (sym (link-back hd 2 refl)))) in
-      starts (p + longLink) _ fPort _ (sym (form-port (p + longLink) (omega arith))) (sym (port-is t (p + longLink) (length link) refl (omega arith) (omega arith) _ l m (sym n)))
+      starts (p + longLink) _ fPort _ (form-port (p + longLink) (omega arith)) (sym (port-is t (p + longLink) (length link) refl (omega arith) (omega arith) _ l m (sym n)))
 
   back-both : nearPort < p → 2 ≤ length link → length link ≤ maxLink → Ported ((farPortCode + longLink) ∷ length link ∷ farPort p) 4
   unfolding padded
@@ -176,7 +152,7 @@ module _ (p : ℕ) (link rest : List ℕ) where
       let z : farValue (p / 256) (p % 256) ≡ p = omega arith in
       let g : readLink p 4 (length link) t ≡ Back hd 4 = link-back hd 4 refl in
       let n : readPortNumber farPortCode 2 (length link) t ≡ Back hd 4 = sym (number-is t farPortCode 2 (length link) p (sym z) (omega arith) (omega arith) _ h (sym g)) in
-      starts (farPortCode + longLink) _ fPort _ (sym (form-port (farPortCode + longLink) (omega arith))) (sym (port-is t (farPortCode + longLink) (length link) refl (omega arith) (omega arith) _ l m (sym n)))
+      starts (farPortCode + longLink) _ fPort _ (form-port (farPortCode + longLink) (omega arith)) (sym (port-is t (farPortCode + longLink) (length link) refl (omega arith) (omega arith) _ l m (sym n)))
 
 -- ---- a segment, with its bytes inside
 
@@ -210,11 +186,11 @@ port-parsed p link rest o m = ⊎-elim
     (near-or p)
 
 -- T1 for one segment and any rest: what is written is read, an empty link as [0]
-pub read-written : (x : Seg) → Fine x → (rest : List ℕ) → parse (encodeSeg x ++ rest) ≡ done (parsed (norm x) (length (encodeSeg x)))
-read-written (symbol bs) f rest = rw (symbol-back bs rest, behind (symbolCode ∷ length bs ∷ []) bs rest)
-read-written (class v) f rest = rw (number-back kClass v rest f)
-read-written (instance v) f rest = rw (number-back kInstance v rest f)
-read-written (attribute v) f rest = rw (number-back kAttribute v rest f)
-read-written (element v) f rest = rw (element-back v rest f)
-read-written (port p []) f rest = rw (← norm-same (port p [])) (port-parsed p (0 ∷ []) rest (omega arith) (omega arith))
-read-written (port p (b ∷ bs)) f rest = port-parsed p (b ∷ bs) rest (omega arith) (f .1)
+pub segment-read-of-written : (x : Seg) → Fine x → (rest : List ℕ) → parse (encodeSeg x ++ rest) ≡ done (parsed (norm x) (length (encodeSeg x)))
+segment-read-of-written (symbol bs) f rest = rw (symbol-back bs rest, behind (symbolCode ∷ length bs ∷ []) bs rest)
+segment-read-of-written (class v) f rest = rw (number-back kClass v rest f)
+segment-read-of-written (instance v) f rest = rw (number-back kInstance v rest f)
+segment-read-of-written (attribute v) f rest = rw (number-back kAttribute v rest f)
+segment-read-of-written (element v) f rest = rw (element-back v rest f)
+segment-read-of-written (port p []) f rest = rw (← norm-same (port p [])) (port-parsed p (0 ∷ []) rest (omega arith) (omega arith))
+segment-read-of-written (port p (b ∷ bs)) f rest = port-parsed p (b ∷ bs) rest (omega arith) (f .1)

@@ -5,27 +5,20 @@ use mathlib.Core.List.{List, [], _∷_}
 use mathlib.Core.Bool.{Bool, true, false}
 use lib.Dec.{eqb, ltb}
 use borrow.Author.Tests.{ltb-true, eqb-true}
-use Rattle.epath_sizes.specs.Limits.{portEnd, classCode, instanceCode, elementCode, attributeCode, symbolCode}
-use Rattle.epath_segment.specs.declared.decode.Kind.{Kind}
-use Rattle.epath_segment.specs.declared.decode.Kind.the-variants.{Class as kClass, Instance as kInstance, Attribute as kAttribute, Element as kElement}
+use Rattle.epath_sizes.specs.Limits.{portEnd, elementCode, symbolCode}
 use Rattle.epath_segment.specs.declared.decode.Form.{Form}
 use Rattle.epath_segment.specs.declared.decode.Form.the-variants.{Port as fPort, Symbol as fSymbol, Narrow, Wide, Widest, Unknown}
 use Rattle.epath_segment.specs.Reads.{FormRow, formRow, table, lookup, formOf}
+use Rattle.epath_segment.proofs.ReadLaws.{codeOf}
 
-abbrev pub codeOf : Kind → ℕ
-codeOf kClass = classCode
-codeOf kInstance = instanceCode
-codeOf kAttribute = attributeCode
-codeOf kElement = elementCode
-
--- ---- what a first byte that has a form is
-pub data Begins : ℕ → Form → Type 0 where
-  port : {b : ℕ} → b < portEnd → Begins b fPort
-  symbol : {b : ℕ} → b ≡ symbolCode → Begins b fSymbol
-  narrow : {b : ℕ} (k : Kind) → b ≡ codeOf k → Begins b (Narrow k)
-  wide : {b : ℕ} (k : Kind) → b ≡ codeOf k + 1 → Begins b (Wide k)
-  widest : {b : ℕ} → b ≡ (elementCode + 2) → Begins b Widest
-  unknown : {b : ℕ} → Begins b Unknown
+-- what a first byte that has a form is
+abbrev pub Begins : ℕ → Form → Type 0
+Begins b fPort = b < portEnd
+Begins b fSymbol = b ≡ symbolCode
+Begins b (Narrow k) = b ≡ codeOf k
+Begins b (Wide k) = b ≡ codeOf k + 1
+Begins b Widest = b ≡ elementCode + 2
+Begins b Unknown = Unit {0}
 
 -- a property of each row, and of no row, is one of what is looked up
 module _ (b : ℕ) (P : Form → Type 0) where
@@ -47,7 +40,5 @@ unfolding formOf
 begins b = go (ltb b portEnd) refl
   where
     go : (q : Bool) → ltb b portEnd ≡ q → Begins b (elim q [ true ↦ fPort | false ↦ lookup b table ])
-    go true p = port (ltb-true b portEnd p)
-    go false p =
-        looked b (Begins b) table
-        (symbol, (narrow kClass, (wide kClass, (narrow kInstance, (wide kInstance, (narrow kAttribute, (wide kAttribute, (narrow kElement, (wide kElement, (widest, unknown))))))))))
+    go true p = ltb-true b portEnd p
+    go false p = looked b (Begins b) table (search)

@@ -2,27 +2,27 @@
 use Prim.Native.Nat.{ℕ, zero, suc, _+_, _/_, _%_, _^_, _≤_, _<_}
 use mathlib.Core.Path.{_≡_, refl, sym, ap, _∙_}
 use mathlib.Core.List.{List, [], _∷_, _++_}
-use mathlib.Core.Logic.{_⊎_, ⊎-elim}
+use mathlib.Core.Logic.{⊎-elim}
 use native.Mathlib.Omega.{arith}
-use native.Mathlib.Nat.{add-zero}
 use lib.ListN.{length, getD, take, drop, length-drop}
 use lib.Seq.{length-take-le, take-suc, take-add, getD-drop}
 use Rattle.wire.specs.Numbers.{valueOf, lowFirst, Bytes}
-use Rattle.wire.specs.Answers.{done, under, over, other, KeepsAll}
-use Rattle.wire.proofs.Numbers.{low-value, value-small, bytes-drop, below-or, first-one, first-two}
-use Rattle.wire.proofs.Rules.{all-were, never}
+use Rattle.wire.specs.Answers.{done, KeepsAll}
+use Rattle.wire.proofs.Numbers.{byte-here, low-value, value-small, bytes-drop, below-or, first-one, first-two}
+use Rattle.wire.proofs.Rules.{never, done-same, all-were}
 use Rattle.epath_sizes.specs.Limits.{maxLink, mostBytes, portEnd, nearPort, farPortCode, longLink, elementCode, symbolCode}
 use Rattle.epath_sizes.specs.Segments.{port, logical, padded, portHead, farPort, farValue, encodeSeg, Fine, linked, norm}
 use Rattle.epath_sizes.specs.Lists.{meaning, startOf, lenOf}
 use Rattle.epath_segment.specs.declared.decode.Kind.{Kind}
 use Rattle.epath_segment.specs.declared.decode.Kind.the-variants.{Class as kClass, Instance as kInstance, Attribute as kAttribute, Element as kElement}
 use Rattle.epath_segment.specs.declared.decode.Form.{Form}
-use Rattle.epath_segment.proofs.ReadLaws.{number-low, number-high, port-one, port-long}
+use Rattle.epath_segment.specs.declared.decode.Form.the-variants.{Port as fPort, Symbol as fSymbol, Narrow, Wide, Widest, Unknown}
+use Rattle.epath_segment.proofs.ReadLaws.{codeOf, number-low, number-high, port-one, port-long}
 use Rattle.epath_sizes.specs.declared.Segment.{Segment}
 use Rattle.epath_sizes.specs.declared.Segment.the-variants.{Symbol, Element, Port}
 use Rattle.epath_segment.specs.Reads.{front, padRules, readPart, readWide, readNarrow, readSymbol, readLink, readPortNumber, readPort, readAs, readSeg, made, formOf}
 use Rattle.epath_sizes.proofs.Forms.{number-one, number-two, number-four, head-short, head-long, head-escaped, head-both, padded-even, padded-odd}
-use Rattle.epath_segment.proofs.Begins.{codeOf, Begins, begins, symbol as bSymbol, port as bPort, narrow as bNarrow, wide as bWide, widest as bWidest, unknown as bUnknown}
+use Rattle.epath_segment.proofs.Begins.{Begins, begins}
 
 -- ---- bytes with a pad
 pub record Ended (t : List ℕ) (x y : Segment) (end n : ℕ) : Type 0 where
@@ -54,7 +54,7 @@ ended t x y end n (suc r) e l u f =
 pub part-got : (t : List ℕ) (x y : Segment) (end n : ℕ) → readPart x end t ≡ done (front y n) → Ended t x y end n
 unfolding readPart
 part-got t x y end n h =
-    let u = all-were (under (length t) end 1 ∷ padRules (end % 2) end t) (done (front x (end + end % 2))) (front y n) h in
+    let u = all-were _ _ (front y n) h in
     ended t x y end n (end % 2) refl (u .0 .0) (u .0 .1) (u .1)
 
 -- ---- what a segment that was read is, with its size
@@ -78,9 +78,9 @@ got-narrow : (t : List ℕ) (k : Kind) (x : Segment) (n : ℕ) → Bytes t → g
 unfolding readNarrow
 got-narrow t k x n b c h =
     let v : ℕ = getD t 1 0 in
-    let u = all-were (under (length t) 2 1 ∷ []) (done (front (made k v) 2)) (front x n) h in
+    let u = all-were _ _ (front x n) h in
     let l : 2 ≤ length t = u .0 .0 in
-    let f : done (front (made k v) 2) ≡ done (front x n) = u .1 in
+    let f = done-same (u .1) in
     let p : made k v ≡ x = cc in
     let q : 2 ≡ n = cc in
     let e : take 2 t ≡ logical (codeOf k) v = first-two t l ∙ rw c (sym (number-one (codeOf k) v (b 1))) in
@@ -99,10 +99,10 @@ got-wider : (t : List ℕ) (make : ℕ → Segment) (w least : ℕ) (x : Segment
 unfolding readWide
 got-wider t make w least x n b h =
     let v : ℕ = valueOf w (drop 2 t) in
-    let u = all-were (under (length t) 2 1 ∷ other (getD t 1 0) 0 5 ∷ under (length t) (2 + w) 1 ∷ under v least 5 ∷ []) (done (front (make v) (2 + w))) (front x n) h in
+    let u = all-were _ _ (front x n) h in
     let z : getD t 1 0 ≡ 0 = u .0 .1 .0 in
     let l : 2 + w ≤ length t = u .0 .1 .1 .0 in
-    let f : done (front (make v) (2 + w)) ≡ done (front x n) = u .1 in
+    let f = done-same (u .1) in
     let d : Bytes (drop 2 t) = bytes-drop t 2 b in
     record {
       here = l;
@@ -137,7 +137,7 @@ unfolding readSymbol
 got-symbol t x n b c h =
     let k : ℕ = getD t 1 0 in
     let y : Segment = Symbol (record { start = 2; len = k }) in
-    let u = all-were (under (length t) 2 1 ∷ []) (readPart y (2 + k) t) (front x n) h in
+    let u = all-were _ _ (front x n) h in
     let l : 2 ≤ length t = u .0 .0 in
     let g : Ended t y x (2 + k) n = part-got t y x (2 + k) n (u .1) in
     let bs : List ℕ = take k (drop 2 t) in
@@ -191,13 +191,12 @@ got-port-number t low at len x n b a o m i one two h = ⊎-elim
     high : farPortCode ≤ low → Got t x n
     high l =
         let p : ℕ = farValue (getD t at 0) (getD t (at + 1) 0) in
-        let u = all-were (under (length t) (at + 2) 1 ∷ under p (nearPort + 1) 5 ∷ []) (readLink p (at + 2) len t) (front x n) (sym (number-high t low at len l) ∙ h) in
+        let u = all-were _ _ (front x n) (sym (number-high t low at len l) ∙ h) in
         let r : at + 2 ≤ length t = u .0 .0 in
         let q : nearPort < p = u .0 .1 .0 in
         let hi : p / 256 ≡ getD t at 0 = omega (arith, b at, b (at + 1)) in
         let lo : p % 256 ≡ getD t (at + 1) 0 = omega (arith, b at, b (at + 1)) in
-        let zero-at : getD (drop at t) 0 0 ≡ getD t at 0 = getD-drop at t 0 0 ∙ rw (add-zero at) in
-        let d : take 2 (drop at t) ≡ farPort p = first-two (drop at t) (simp length-drop (omega arith)) ∙ rw (hi, lo, zero-at, getD-drop at t 1 0) in
+        let d : take 2 (drop at t) ≡ farPort p = first-two (drop at t) (simp length-drop (omega arith)) ∙ rw (hi, lo, byte-here t at, getD-drop at t 1 0) in
         let e : take (at + 2) t ≡ portHead p len = take-add at 2 t ∙ rw d (two p q (omega arith)) in
         got-link t p (at + 2) len x n (omega arith) o m (omega (arith, b at, b (at + 1))) e (u .1)
 
@@ -220,7 +219,7 @@ got-port t x n b l s h = ⊎-elim
     long f =
         let c : ℕ = getD t 0 0 in
         let m : ℕ = getD t 1 0 in
-        let u = all-were (under (length t) 2 1 ∷ under m 2 5 ∷ over m maxLink 3 ∷ []) (readPortNumber (c % longLink) 2 m t) (front x n) (sym (port-long t c f) ∙ h) in
+        let u = all-were _ _ (front x n) (sym (port-long t c f) ∙ h) in
         let r : 2 ≤ length t = u .0 .0 in
         let q : 2 ≤ m = u .0 .1 .0 in
         let w : m ≤ maxLink = u .0 .1 .1 .0 in
@@ -232,16 +231,16 @@ got-port t x n b l s h = ⊎-elim
 
 -- ---- a segment
 got-as : (t : List ℕ) (f : Form) (x : Segment) (n : ℕ) → Bytes t → 1 ≤ length t → Begins (getD t 0 0) f → readAs f (getD t 0 0) t ≡ done (front x n) → Got t x n
-got-as t _ x n b l (bPort s) h = got-port t x n b l s h
-got-as t _ x n b l (bSymbol s) h = got-symbol t x n b s h
-got-as t _ x n b l (bNarrow k s) h = got-narrow t k x n b s h
-got-as t _ x n b l (bWide k s) h = got-wide t k x n b s h
-got-as t _ x n b l (bWidest s) h = got-widest t x n b s h
-got-as t _ x n b l bUnknown h = never h
+got-as t fPort x n b l s h = got-port t x n b l s h
+got-as t fSymbol x n b l s h = got-symbol t x n b s h
+got-as t (Narrow k) x n b l s h = got-narrow t k x n b s h
+got-as t (Wide k) x n b l s h = got-wide t k x n b s h
+got-as t Widest x n b l s h = got-widest t x n b s h
+got-as t Unknown x n b l s h = never h
 
 pub got : (t : List ℕ) (x : Segment) (n : ℕ) → Bytes t → readSeg t ≡ done (front x n) → Got t x n
 unfolding readSeg
 got t x n b h =
     let c : ℕ = getD t 0 0 in
-    let u = all-were (under (length t) 1 1 ∷ []) (readAs (formOf c) c t) (front x n) h in
+    let u = all-were _ _ (front x n) h in
     got-as t (formOf c) x n b (u .0 .0) (begins c) (u .1)

@@ -19,6 +19,13 @@ use Rattle.epath_segment.specs.declared.decode.Form.the-variants.{Port a
 use Rattle.epath_segment.specs.Reads.{Front, front, FormRow, formRow, table, formOf, lookup, made, readNarrow, readWide, readPart, readSymbol, readLink, readPortNumber, readPort, readAs, readSeg}
 
 -- ---- the first byte: each row of the table, and none
+
+abbrev pub codeOf : Kind → ℕ
+codeOf kClass = classCode
+codeOf kInstance = instanceCode
+codeOf kAttribute = attributeCode
+codeOf kElement = elementCode
+
 module _ (b : ℕ) where
   pub form-port : b < portEnd → fPort ≡ formOf b
   unfolding formOf
@@ -28,41 +35,17 @@ module _ (b : ℕ) where
   unfolding formOf lookup
   form-symbol h = rw h
 
-  pub form-class : b ≡ classCode → Narrow kClass ≡ formOf b
+  pub form-narrow : (k : Kind) → b ≡ codeOf k → Narrow k ≡ formOf b
   unfolding formOf lookup
-  form-class h = rw h
+  form-narrow = elim [ kClass ↦ λ h. rw h | kInstance ↦ λ h. rw h | kAttribute ↦ λ h. rw h | kElement ↦ λ h. rw h ]
 
-  pub form-class2 : b ≡ classCode + 1 → Wide kClass ≡ formOf b
+  pub form-wide : (k : Kind) → b ≡ codeOf k + 1 → Wide k ≡ formOf b
   unfolding formOf lookup
-  form-class2 h = rw h
+  form-wide = elim [ kClass ↦ λ h. rw h | kInstance ↦ λ h. rw h | kAttribute ↦ λ h. rw h | kElement ↦ λ h. rw h ]
 
-  pub form-instance : b ≡ instanceCode → Narrow kInstance ≡ formOf b
+  pub form-widest : b ≡ elementCode + 2 → Widest ≡ formOf b
   unfolding formOf lookup
-  form-instance h = rw h
-
-  pub form-instance2 : b ≡ instanceCode + 1 → Wide kInstance ≡ formOf b
-  unfolding formOf lookup
-  form-instance2 h = rw h
-
-  pub form-attribute : b ≡ attributeCode → Narrow kAttribute ≡ formOf b
-  unfolding formOf lookup
-  form-attribute h = rw h
-
-  pub form-attribute2 : b ≡ attributeCode + 1 → Wide kAttribute ≡ formOf b
-  unfolding formOf lookup
-  form-attribute2 h = rw h
-
-  pub form-element : b ≡ elementCode → Narrow kElement ≡ formOf b
-  unfolding formOf lookup
-  form-element h = rw h
-
-  pub form-element2 : b ≡ elementCode + 1 → Wide kElement ≡ formOf b
-  unfolding formOf lookup
-  form-element2 h = rw h
-
-  pub form-element4 : b ≡ elementCode + 2 → Widest ≡ formOf b
-  unfolding formOf lookup
-  form-element4 h = rw h
+  form-widest h = rw h
 
   passed : (c : ℕ) (f : Form) (rs : List FormRow) → (b ≡ c → ⊥) → lookup b (formRow c f ∷ rs) ≡ lookup b rs
   unfolding lookup
@@ -80,21 +63,11 @@ module _ (b : ℕ) where
   form-unknown h p q r s t u v w x y =
       rw (no-port h, passed _ _ _ p, passed _ _ _ q, passed _ _ _ r, passed _ _ _ s, passed _ _ _ t, passed _ _ _ u, passed _ _ _ v, passed _ _ _ w, passed _ _ _ x, passed _ _ _ y) no-row
 
-pub ruleset form-laws = (form-port, form-symbol, form-class, form-class2, form-instance, form-instance2, form-attribute, form-attribute2, form-element, form-element2, form-element4, form-unknown)
+pub ruleset form-laws = (form-port, form-symbol, form-narrow, form-wide, form-widest, form-unknown)
 
 -- ---- numbers
-module _ (k : Kind) (v : ℕ) where
-  pub made-class : k ≡ kClass → Class v ≡ made k v
-  made-class h = rw h
-
-  pub made-instance : k ≡ kInstance → Instance v ≡ made k v
-  made-instance h = rw h
-
-  pub made-attribute : k ≡ kAttribute → Attribute v ≡ made k v
-  made-attribute h = rw h
-
-  pub made-element : k ≡ kElement → Element v ≡ made k v
-  made-element h = rw h
+pub made-as : (k j : Kind) (v : ℕ) (x : Segment) → k ≡ j → x ≡ made j v → x ≡ made k v
+made-as k j v x h e = e ∙ rw h
 
 module _ (t : List ℕ) (make : ℕ → Segment) where
   pub narrow-short : length t < 2 → refused 1 ≡ readNarrow make t
@@ -134,7 +107,7 @@ module _ (t : List ℕ) (make : ℕ → Segment) where
         let r : least ≤ valueOf w (drop 2 t) = omega arith in
         rw (g, f, o) (search rules)
 
-pub ruleset number-laws = (made-class, made-instance, made-attribute, made-element, narrow-short, narrow-is, wide-short, wide-pad, wide-cut, wide-small, wide-is)
+pub ruleset number-laws = (made-as, narrow-short, narrow-is, wide-short, wide-pad, wide-cut, wide-small, wide-is)
 
 -- ---- bytes with a pad
 module _ (t : List ℕ) (x : Segment) (end : ℕ) where
@@ -259,20 +232,21 @@ module _ (t : List ℕ) where
 
   -- ---- the most common forms, where two bytes are there
   module _ (h : 2 ≤ length t) where
-    narrow-front : (k : Kind) → Narrow k ≡ formOf (getD t 0 0) → done (front (made k (getD t 1 0)) 2) ≡ readSeg t
-    narrow-front k e = front-is (getD t 0 0) (Narrow k) (Narrow k) _ refl e refl (omega arith) (narrow-is t (made k) (getD t 1 0) _ refl refl h)
+    narrow-front : (k : Kind) → getD t 0 0 ≡ codeOf k → done (front (made k (getD t 1 0)) 2) ≡ readSeg t
+    narrow-front k e =
+        front-is (getD t 0 0) (Narrow k) (Narrow k) _ refl (form-narrow _ k e) refl (omega arith) (narrow-is t (made k) (getD t 1 0) _ refl refl h)
 
     pub class-front : getD t 0 0 ≡ classCode → done (front (Class (getD t 1 0)) 2) ≡ readSeg t
-    class-front e = narrow-front kClass (form-class _ e)
+    class-front = narrow-front kClass
 
     pub instance-front : getD t 0 0 ≡ instanceCode → done (front (Instance (getD t 1 0)) 2) ≡ readSeg t
-    instance-front e = narrow-front kInstance (form-instance _ e)
+    instance-front = narrow-front kInstance
 
     pub attribute-front : getD t 0 0 ≡ attributeCode → done (front (Attribute (getD t 1 0)) 2) ≡ readSeg t
-    attribute-front e = narrow-front kAttribute (form-attribute _ e)
+    attribute-front = narrow-front kAttribute
 
     pub element-front : getD t 0 0 ≡ elementCode → done (front (Element (getD t 1 0)) 2) ≡ readSeg t
-    element-front e = narrow-front kElement (form-element _ e)
+    element-front = narrow-front kElement
 
     pub port-front : getD t 0 0 < farPortCode → done (front (Port (record { port = getD t 0 0 % longLink; start = 1; len = 1 })) 2) ≡ readSeg t
     port-front l =

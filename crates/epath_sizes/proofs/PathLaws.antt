@@ -1,5 +1,5 @@
 -- The loop over a list's slots that adds up sizes, and what a list's size says of it. Assumes nothing.
-use Prim.Native.Nat.{ℕ, zero, suc, _+_, _-_, _%_, _≤_, _<_}
+use Prim.Native.Nat.{ℕ, zero, suc, _+_, _%_, _≤_, _<_}
 use mathlib.Core.Path.{_≡_, refl, sym, ap, _∙_}
 use mathlib.Core.List.{List, [], _∷_, _++_}
 use native.Mathlib.Numerals.{add-one}
@@ -8,7 +8,7 @@ use lib.ListN.{length, length-append, take, drop, getD}
 use lib.Seq.{drop-cons, length-take-le, getD-take}
 use mir.Val.{Fits}
 use mir.Syntax.{w64}
-use Rattle.wire.specs.Answers.{Answer, done, refused, paperSize, over}
+use Rattle.wire.specs.Answers.{Answer, done, refused, paperSize}
 use Rattle.wire.specs.Refusals.{number}
 use Rattle.wire.specs.Folds.{sizes, joined}
 use Rattle.wire.specs.declared.Refusal.{Refusal}
@@ -95,7 +95,7 @@ module _ (pool : List ℕ) (p : Path) where
 
   counted : p .count ≤ maxSegments → {z : Answer ℕ} → z ≡ sizes (sizeIn pool) (slotsOf p) → z ≡ pathSize pool p
   unfolding pathSize
-  counted h e = e ∙ sym (all-keep (over (p .count) maxSegments 3 ∷ []) (sizes (sizeIn pool) (slotsOf p)) (h, tt))
+  counted h e = e ∙ sym (all-keep _ _ (h, tt))
 
   pub summing-first : Summing pool p 0 0
   summing-first = adding-first (sizeIn pool) mostBytes (size-short pool) (slotsOf p)
@@ -139,7 +139,7 @@ pub record PathSized (pool : List ℕ) (p : Path) (n : ℕ) : Type 0 where
 pub path-sized : (pool : List ℕ) (p : Path) (n : ℕ) → pathSize pool p ≡ done n → PathSized pool p n
 unfolding pathSize
 path-sized pool p n h =
-    let w = all-were (over (p .count) maxSegments 3 ∷ []) (sizes (sizeIn pool) (slotsOf p)) n h in
+    let w = all-were _ _ n h in
     record {
       few = w .0 .0;
       sum = w .1;

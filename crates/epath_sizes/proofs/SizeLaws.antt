@@ -1,8 +1,8 @@
 -- Each end of the sizes, as a law with plain conditions. Assumes nothing.
-use Prim.Native.Nat.{ℕ, suc, _+_, _-_, _%_, _≤_, _<_}
+use Prim.Native.Nat.{ℕ, _+_, _-_, _%_, _≤_, _<_}
 use mathlib.Core.Path.{_≡_, refl, sym, ap, _∙_}
 use mathlib.Core.List.{List, [], _∷_, _++_}
-use mathlib.Core.Logic.{_⊎_, ⊎-elim}
+use mathlib.Core.Logic.{⊎-elim}
 use native.Mathlib.Nat.{add-zero}
 use native.Mathlib.Omega.{arith}
 use lib.ListN.{length, length-append}
@@ -16,11 +16,11 @@ use Rattle.wire.specs.Answers.{Answer, done, refused, paperSize, Rule, judged, 
 use Rattle.wire.specs.declared.Refusal.{Refusal}
 use Rattle.wire.specs.declared.Wrote.{Wrote}
 use Rattle.wire.specs.declared.Wrote.the-variants.{Size, Refused}
-use Rattle.wire.proofs.Rules.{all-were, all-keep, same-refusal}
+use Rattle.wire.proofs.Rules.{done-same, all-were, all-keep, same-refusal}
 use Rattle.wire.proofs.Numbers.{below-or}
 use Rattle.wire.proofs.Stores.{part-length}
 use Rattle.epath_sizes.specs.Limits.{maxSymbol, maxLink, nearPort, classCode, instanceCode, attributeCode, elementCode, symbolCode}
-use Rattle.epath_sizes.specs.Segments.{symbol, port, logical, pad, padded, portHead, encodeSeg}
+use Rattle.epath_sizes.specs.Segments.{port, logical, pad, padded, portHead, encodeSeg}
 use Rattle.epath_sizes.specs.Lists.{meaning}
 use Rattle.epath_sizes.specs.Sizes.{partRules, segmentRules, segmentSize, Good}
 use Rattle.epath_sizes.specs.declared.Segment.{Segment}
@@ -95,74 +95,67 @@ pub record Inside (limit n start len : ℕ) : Type 0 where
 pub keeps-inside : (limit n start len : ℕ) → KeepsAll (partRules limit n start len) → Inside limit n start len
 keeps-inside limit n start len k = record { starts = k .0; ends = k .1 .0; short = k .1 .1 .0 }
 
-module _ (limit n start len k : ℕ) where
-  inside : (r : Wrote) → paperSize r ≡ judged (partRules limit n start len) (done len) → r ≡ Size k → Inside limit n start len × (k ≡ len)
-  inside r e h =
-      let w = all-were (partRules limit n start len) (done len) k (sym e ∙ ap paperSize h) in
-      let f : done len ≡ done k = w .1 in
-      (keeps-inside limit n start len (w .0), cc)
+-- ---- a segment that holds a part: a head, the part, a pad. The first rule that the part breaks refuses it
+module _ (pool : List ℕ) (t : Segment) (limit start len : ℕ) (same : segmentRules (length pool) t ≡ partRules limit (length pool) start len)
+    (r : Wrote) (is : paperSize r ≡ judged (partRules limit (length pool) start len) (done len)) where
+  part-refused : (e : Refusal) → r ≡ Refused e → refused (number e) ≡ segmentSize pool t
+  unfolding segmentSize
+  part-refused e h =
+      sym (same-refusal _ len (done (length (encodeSeg (meaning pool t)))) (number e) (sym is ∙ ap paperSize h))
+      ∙ ap (λ (rs : List Rule). judged rs (done (length (encodeSeg (meaning pool t))))) (sym same)
 
--- the first rule that a part breaks refuses its segment
-part-refused : (pool : List ℕ) (s : Segment) (limit start len : ℕ) (r : Wrote) (e : Refusal) → segmentRules (length pool) s ≡ partRules limit (length pool) start len
-    → paperSize r ≡ judged (partRules limit (length pool) start len) (done len) → r ≡ Refused e → refused (number e) ≡ segmentSize pool s
-unfolding segmentSize
-part-refused pool s limit start len r e g is h =
-    sym (same-refusal (partRules limit (length pool) start len) len (done (length (encodeSeg (meaning pool s)))) (number e) (sym is ∙ ap paperSize h))
-    ∙ ap (λ (rs : List Rule). judged rs (done (length (encodeSeg (meaning pool s))))) (sym g)
+  module _ (n : ℕ) (h : r ≡ Size n) where
+    inside : Inside limit (length pool) start len × (n ≡ len)
+    inside = let w = all-were _ _ n (sym is ∙ ap paperSize h) in (keeps-inside _ _ _ _ (w .0), sym (done-same (w .1)))
+
+    long : n ≡ length (part pool start len)
+    long = inside .1 ∙ sym (part-length pool start len (inside .0 .ends))
+
+    part-sized : (hd : List ℕ) (k m : ℕ) → k ≡ length hd → encodeSeg (meaning pool t) ≡ padded (hd ++ part pool start len) → m ≡ k + n + length (pad (k + n))
+        → done m ≡ segmentSize pool t
+    unfolding segmentSize
+    part-sized hd k m l bytes g =
+        let bs : List ℕ = hd ++ part pool start len in
+        let e : k + n ≡ length bs = omega (arith, long, length-append hd (part pool start len)) in
+        ap done (g ∙ ap (λ (x : ℕ). x + length (pad x)) e ∙ sym (length-padded bs) ∙ ap length (sym bytes))
+        ∙ sym (all-keep _ _ (rw same (inside .0 .starts, (inside .0 .ends, (inside .0 .short, tt)))))
 
 module _ (pool : List ℕ) (y : SymbolSegment) (r : Wrote) (is : paperSize r ≡ judged (partRules maxSymbol (length pool) (y .start) (y .len)) (done (y .len))) where
   pub symbol-refused : (e : Refusal) → r ≡ Refused e → refused (number e) ≡ segmentSize pool (Symbol y)
-  symbol-refused e h = part-refused pool (Symbol y) maxSymbol (y .start) (y .len) r e refl is h
+  symbol-refused = part-refused pool (Symbol y) maxSymbol (y .start) (y .len) refl r is
 
   module _ (n : ℕ) (h : r ≡ Size n) where
     pub symbol-small : 2 + n < 1000
-    symbol-small = let i = inside maxSymbol (length pool) (y .start) (y .len) n r is h in omega (arith, i .0 .short, i .1)
+    symbol-small = let i = inside pool (Symbol y) maxSymbol (y .start) (y .len) refl r is n h in omega (arith, i .0 .short, i .1)
 
     pub symbol-fits : Fits w64 (2 + n)
     symbol-fits = record { fits = omega (arith, symbol-small) }
 
     pub symbol-sized : (m : ℕ) → m ≡ 2 + n + length (pad (2 + n)) → done m ≡ segmentSize pool (Symbol y)
-    unfolding segmentSize
-    symbol-sized m g =
-        let i = inside maxSymbol (length pool) (y .start) (y .len) n r is h in
-        let bs : List ℕ = part pool (y .start) (y .len) in
-        let e : 2 + n ≡ suc (suc (length bs)) = omega (arith, i .1, part-length pool (y .start) (y .len) (i .0 .ends)) in
-        let z : m ≡ length (padded (symbolCode ∷ length bs ∷ bs)) = g ∙ ap (λ (k : ℕ). k + length (pad k)) e ∙ sym (length-padded (symbolCode ∷ length bs ∷ bs)) in
-        ap done z
-        ∙ sym (all-keep (segmentRules (length pool) (Symbol y)) (done (length (encodeSeg (symbol bs)))) (i .0 .starts, (i .0 .ends, (i .0 .short, tt))))
+    symbol-sized m = part-sized pool (Symbol y) maxSymbol (y .start) (y .len) refl r is n h (symbolCode ∷ length (part pool (y .start) (y .len)) ∷ []) 2 m refl refl
 
 module _ (pool : List ℕ) (q : PortSegment) (r : Wrote) (is : paperSize r ≡ judged (partRules maxLink (length pool) (q .start) (q .len)) (done (q .len))) where
   pub port-refused : (e : Refusal) → r ≡ Refused e → refused (number e) ≡ segmentSize pool (Port q)
-  port-refused e h = part-refused pool (Port q) maxLink (q .start) (q .len) r e refl is h
+  port-refused = part-refused pool (Port q) maxLink (q .start) (q .len) refl r is
 
   module _ (n : ℕ) (h : r ≡ Size n) (k : ℕ) (hd : k ≡ length (portHead (q .port) n)) where
     pub port-small : k + n < 1000
-    port-small = let i = inside maxLink (length pool) (q .start) (q .len) n r is h in omega (arith, i .0 .short, i .1, head-most (q .port) n)
+    port-small = let i = inside pool (Port q) maxLink (q .start) (q .len) refl r is n h in omega (arith, i .0 .short, i .1, head-most (q .port) n)
 
     pub port-fits : Fits w64 (k + n)
     port-fits = record { fits = omega (arith, port-small) }
 
     pub port-sized : (m : ℕ) → m ≡ k + n + length (pad (k + n)) → done m ≡ segmentSize pool (Port q)
-    unfolding segmentSize
-    port-sized m g =
-        let i = inside maxLink (length pool) (q .start) (q .len) n r is h in
-        let bs : List ℕ = part pool (q .start) (q .len) in
-        let l : n ≡ length bs = i .1 ∙ sym (part-length pool (q .start) (q .len) (i .0 .ends)) in
-        let d : k ≡ length (portHead (q .port) (length bs)) = hd ∙ ap (λ (x : ℕ). length (portHead (q .port) x)) l in
-        let e : k + n ≡ length (portHead (q .port) (length bs) ++ bs) = omega (arith, length-append (portHead (q .port) (length bs)) bs) in
-        let z : m ≡ length (padded (portHead (q .port) (length bs) ++ bs)) = g ∙ ap (λ (x : ℕ). x + length (pad x)) e ∙ sym (length-padded (portHead (q .port) (length bs) ++ bs)) in
-        ap done z
-        ∙ sym (all-keep (segmentRules (length pool) (Port q)) (done (length (encodeSeg (port (q .port) bs)))) (i .0 .starts, (i .0 .ends, (i .0 .short, tt))))
+    port-sized m =
+        part-sized pool (Port q) maxLink (q .start) (q .len) refl r is n h (portHead (q .port) (length (part pool (q .start) (q .len)))) k m
+        (hd ∙ ap (λ (x : ℕ). length (portHead (q .port) x)) (long pool (Port q) maxLink (q .start) (q .len) refl r is n h)) refl
 
 pub ruleset part-laws = (symbol-refused, symbol-small, symbol-fits, symbol-sized, port-refused, port-small, port-fits, port-sized)
 
 -- ---- a segment
 module _ (pool : List ℕ) (s : Segment) where
-  pub size-symbol : (y : SymbolSegment) (z : Answer ℕ) → s ≡ Symbol y → z ≡ segmentSize pool (Symbol y) → z ≡ segmentSize pool s
-  size-symbol y z h e = e ∙ ap (segmentSize pool) (sym h)
-
-  pub size-port : (q : PortSegment) (z : Answer ℕ) → s ≡ Port q → z ≡ segmentSize pool (Port q) → z ≡ segmentSize pool s
-  size-port q z h e = e ∙ ap (segmentSize pool) (sym h)
+  pub size-as : (t : Segment) (z : Answer ℕ) → s ≡ t → z ≡ segmentSize pool t → z ≡ segmentSize pool s
+  size-as t z h e = e ∙ ap (segmentSize pool) (sym h)
 
   module _ (v n : ℕ) (e : n ≡ length (logical 0 v)) where
     logical-sized : (t : Segment) (code : ℕ) → encodeSeg (meaning pool t) ≡ logical code v → segmentRules (length pool) t ≡ [] → s ≡ t → done n ≡ segmentSize pool s
@@ -185,7 +178,7 @@ module _ (pool : List ℕ) (s : Segment) where
     pub size-element : s ≡ Element v → done n ≡ segmentSize pool s
     size-element h = logical-sized (Element v) elementCode refl refl h
 
-pub ruleset segment-laws = (size-symbol, size-port, size-class, size-instance, size-attribute, size-element)
+pub ruleset segment-laws = (size-as, size-class, size-instance, size-attribute, size-element)
 
 -- ---- what a size says of its segment
 pub record Sized (pool : List ℕ) (s : Segment) (n : ℕ) : Type 0 where
@@ -195,6 +188,5 @@ pub record Sized (pool : List ℕ) (s : Segment) (n : ℕ) : Type 0 where
 pub sized : (pool : List ℕ) (s : Segment) (n : ℕ) → segmentSize pool s ≡ done n → Sized pool s n
 unfolding segmentSize
 sized pool s n h =
-    let w = all-were (segmentRules (length pool) s) (done (length (encodeSeg (meaning pool s)))) n h in
-    let f : done (length (encodeSeg (meaning pool s))) ≡ done n = w .1 in
-    record { good = w .0; size = cc }
+    let w = all-were _ _ n h in
+    record { good = w .0; size = sym (done-same (w .1)) }

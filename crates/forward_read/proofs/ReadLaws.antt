@@ -8,7 +8,7 @@ use lib.ListN.{length, getD, drop}
 use lib.Seq.{getD-drop, drop-drop}
 use Rattle.wire.specs.Numbers.{valueOf}
 use Rattle.wire.specs.Refusals.{number}
-use Rattle.wire.specs.Answers.{Answer, done, refused, andThen, judged, paperCount}
+use Rattle.wire.specs.Answers.{Answer, done, refused, paperCount}
 use Rattle.wire.specs.declared.Refusal.{Refusal}
 use Rattle.wire.specs.declared.Counted.{Counted}
 use Rattle.wire.specs.declared.Counted.the-variants.{Count, Refused as NotCounted}
@@ -28,8 +28,8 @@ use Rattle.connection_words.specs.declared.TransportRead.the-variants.{Found as
 use Rattle.message_read.specs.declared.Judged.{Judged}
 use Rattle.message_read.specs.declared.Judged.the-variants.{Kept, Refused as Broken}
 use Rattle.message_read.specs.Reads.{firstRules, routeAt, paddedRouteAt, verdict, paperJudged}
-use Rattle.message_read.proofs.ReadLaws.{kept-stops, kept-goes, count-stops, count-goes}
-use Rattle.forward_read.specs.Reads.{Opened, opened, openRules, secondPlace, transportPlace, parametersAt, transportAt, optionsAt, openEnd, openBehind, readOpen, Closed, closed, closeAt, readClose}
+use Rattle.message_read.proofs.ReadLaws.{kept-stops, kept-goes}
+use Rattle.forward_read.specs.Reads.{Opened, opened, openRules, secondPlace, transportPlace, parametersAt, transportAt, optionsAt, openEnd, openBehind, readOpen, closed, closeAt, readClose}
 
 -- ---- Forward Close
 module _ (s : List ℕ) where
@@ -38,24 +38,18 @@ module _ (s : List ℕ) where
   close-record a b c d e f g h i j = rw (f, g, h, i, j)
 
   module _ (r : Judged) (is : paperJudged r ≡ verdict (firstRules s)) where
-    closing : ℕ → Answer Closed
-    closing len = done (closed (closeAt s) 12 len)
-
     pub close-first : (e : Refusal) → r ≡ Broken e → refused (number e) ≡ readClose s
-    unfolding readClose closing
-    close-first e h = kept-stops (firstRules s) (andThen (paddedRouteAt s 10) closing) r is e h
+    unfolding readClose
+    close-first = kept-stops _ _ r is
 
     module _ (h : r ≡ Kept) (q : Counted) (of : paperCount q ≡ paddedRouteAt s 10) where
       pub close-route : (e : Refusal) → q ≡ NotCounted e → refused (number e) ≡ readClose s
-      unfolding readClose closing
-      close-route e f =
-          kept-goes (firstRules s) (andThen (paddedRouteAt s 10) closing) r is (refused (number e)) h (count-stops (paddedRouteAt s 10) closing q of e f)
+      unfolding readClose
+      close-route e f = kept-goes _ _ r is _ h (then-stops _ _ (number e) (sym of ∙ ap paperCount f))
 
       pub close-found : (len : ℕ) (c : ForwardCloseRequest) → q ≡ Count len → c ≡ closeAt s → done (closed c 12 len) ≡ readClose s
-      unfolding readClose closing
-      close-found len c f e =
-          kept-goes (firstRules s) (andThen (paddedRouteAt s 10) closing) r is (done (closed c 12 len)) h
-          (count-goes (paddedRouteAt s 10) closing q of len (done (closed c 12 len)) f (rw e))
+      unfolding readClose
+      close-found len c f e = kept-goes _ _ r is _ h (then-goes _ _ len _ (sym of ∙ ap paperCount f) (rw e))
 
 pub ruleset close-laws = (close-record, close-first, close-route, close-found)
 
@@ -131,81 +125,56 @@ module _ (s : List ℕ) where
 
   module _ (large : Bool) where
     module _ (a b : ConnectionParameters) (w : ℕ) (wide : w ≡ parameterWidth large) (r : TransportRead) (is : paperTransport r ≡ transportAt s (30 + 2 * w)) where
-      ending : Transport → Answer Opened
-      ending t = andThen (routeAt s (transportPlace large + 1)) (λ len. done (opened (optionsAt large s a b t) (transportPlace large + 2) len))
-
       told : (t : Answer Transport) → paperTransport r ≡ t → transportAt s (transportPlace large) ≡ t
       told t h = rw (← wide) (sym is ∙ h)
 
       pub end-transport : (e : Refusal) → r ≡ NoTransport e → refused (number e) ≡ openEnd large s a b
-      unfolding openEnd ending
-      end-transport e h = then-stops (transportAt s (transportPlace large)) ending (number e) (told (refused (number e)) (ap paperTransport h))
+      unfolding openEnd
+      end-transport e h = then-stops _ _ (number e) (told _ (ap paperTransport h))
 
       module _ (d : Direction) (t : TriggerType) (k : TransportClass) (h : r ≡ FoundTransport d t k) (q : Counted) (of : paperCount q ≡ routeAt s (30 + 2 * w + 1)) where
         routed : paperCount q ≡ routeAt s (transportPlace large + 1)
         routed = rw (← wide) of
 
-        ended : (z : Answer Opened) → z ≡ ending (transport d t k) → z ≡ openEnd large s a b
-        unfolding openEnd ending
-        ended z e = then-goes (transportAt s (transportPlace large)) ending (transport d t k) z (told (done (transport d t k)) (ap paperTransport h)) e
-
         pub end-route : (e : Refusal) → q ≡ NotCounted e → refused (number e) ≡ openEnd large s a b
-        unfolding ending
-        end-route e f =
-            ended (refused (number e))
-            (count-stops (routeAt s (transportPlace large + 1)) (λ len. done (opened (optionsAt large s a b (transport d t k)) (transportPlace large + 2) len)) q routed e f)
+        unfolding openEnd
+        end-route e f = then-goes _ _ _ _ (told _ (ap paperTransport h)) (then-stops _ _ (number e) (sym routed ∙ ap paperCount f))
 
         pub end-found : (len : ℕ) (o : OpenOptions) → q ≡ Count len → o ≡ optionsAt large s a b (transport d t k) → done (opened o (30 + 2 * w + 2) len) ≡ openEnd large s a b
-        unfolding ending
-        end-found len o f e =
-            ended (done (opened o (30 + 2 * w + 2) len))
-            (count-goes (routeAt s (transportPlace large + 1)) (λ len. done (opened (optionsAt large s a b (transport d t k)) (transportPlace large + 2) len)) q routed len
-            (done (opened o (30 + 2 * w + 2) len)) f (rw (e, wide)))
+        unfolding openEnd
+        end-found len o f e = then-goes _ _ _ _ (told _ (ap paperTransport h)) (then-goes _ _ len _ (sym routed ∙ ap paperCount f) (rw (e, wide)))
 
     module _ (r : ParametersRead) (is : paperParameters r ≡ parametersAt large s 26) where
-      second : ConnectionParameters → Answer Opened
-      second a = andThen (parametersAt large s (secondPlace large + 4)) (λ b. openEnd large s a b)
-
       pub behind-first : (e : Refusal) → r ≡ NoParameters e → refused (number e) ≡ openBehind large s
-      unfolding openBehind second
-      behind-first e h = then-stops (parametersAt large s 26) second (number e) (sym is ∙ ap paperParameters h)
+      unfolding openBehind
+      behind-first e h = then-stops _ _ (number e) (sym is ∙ ap paperParameters h)
 
       module _ (a : ConnectionParameters) (h : r ≡ FoundParameters a) (w : ℕ) (wide : w ≡ parameterWidth large)
           (q : ParametersRead) (of : paperParameters q ≡ parametersAt large s (26 + w + 4)) where
         here : (x : Answer ConnectionParameters) → paperParameters q ≡ x → parametersAt large s (secondPlace large + 4) ≡ x
         here x e = rw (← wide) (sym of ∙ e)
 
-        passed : (z : Answer Opened) → z ≡ second a → z ≡ openBehind large s
-        unfolding openBehind second
-        passed z e = then-goes (parametersAt large s 26) second a z (sym is ∙ ap paperParameters h) e
-
         pub behind-second : (e : Refusal) → q ≡ NoParameters e → refused (number e) ≡ openBehind large s
-        unfolding second
-        behind-second e f =
-            passed (refused (number e))
-            (then-stops (parametersAt large s (secondPlace large + 4)) (λ b. openEnd large s a b) (number e) (here (refused (number e)) (ap paperParameters f)))
+        unfolding openBehind
+        behind-second e f = then-goes _ _ a _ (sym is ∙ ap paperParameters h) (then-stops _ _ (number e) (here _ (ap paperParameters f)))
 
         pub behind-both : (b : ConnectionParameters) (z : Answer Opened) → q ≡ FoundParameters b → z ≡ openEnd large s a b → z ≡ openBehind large s
-        unfolding second
-        behind-both b z f e =
-            passed z (then-goes (parametersAt large s (secondPlace large + 4)) (λ b. openEnd large s a b) b z (here (done b) (ap paperParameters f)) e)
+        unfolding openBehind
+        behind-both b z f e = then-goes _ _ a z (sym is ∙ ap paperParameters h) (then-goes _ _ b z (here _ (ap paperParameters f)) e)
 
     module _ (r : Judged) (is : paperJudged r ≡ verdict (firstRules s)) where
       pub open-first : (e : Refusal) → r ≡ Broken e → refused (number e) ≡ readOpen large s
       unfolding readOpen
-      open-first e h = kept-stops (firstRules s) (judged (openRules s) (openBehind large s)) r is e h
+      open-first = kept-stops _ _ r is
 
       module _ (h : r ≡ Kept) (q : Judged) (of : paperJudged q ≡ verdict (openRules s)) where
         pub open-head : (e : Refusal) → q ≡ Broken e → refused (number e) ≡ readOpen large s
         unfolding readOpen
-        open-head e f =
-            kept-goes (firstRules s) (judged (openRules s) (openBehind large s)) r is (refused (number e)) h
-            (kept-stops (openRules s) (openBehind large s) q of e f)
+        open-head e f = kept-goes _ _ r is _ h (kept-stops _ _ q of e f)
 
         pub open-found : (z : Answer Opened) → q ≡ Kept → z ≡ openBehind large s → z ≡ readOpen large s
         unfolding readOpen
-        open-found z f e =
-            kept-goes (firstRules s) (judged (openRules s) (openBehind large s)) r is z h (kept-goes (openRules s) (openBehind large s) q of z f e)
+        open-found z f e = kept-goes _ _ r is z h (kept-goes _ _ q of z f e)
 
 pub ruleset field-laws = (word-large, word-small, parameters-short, parameters-are, transport-short, transport-is, head-short, head-form, head-kept)
 

@@ -1,19 +1,19 @@
 -- The sizes' ends, and what a size that was answered says of the request. Assumes nothing.
 use Prim.Native.Nat.{ℕ, _+_, _*_, _≤_}
 use mathlib.Core.Path.{_≡_, refl, sym, ap, _∙_}
-use mathlib.Core.List.{List, [], _∷_, _++_}
+use mathlib.Core.List.{List, _++_}
 use mathlib.Core.Bool.{Bool, true, false}
 use native.Mathlib.Omega.{arith}
 use lib.ListN.{length}
 use mir.Val.{Fits}
 use mir.Syntax.{w64}
 use Rattle.wire.specs.Refusals.{number}
-use Rattle.wire.specs.Answers.{Answer, done, refused, paperSize, over, andThen}
+use Rattle.wire.specs.Answers.{Answer, done, refused, paperSize, andThen}
 use Rattle.wire.specs.Records.{laid}
 use Rattle.wire.specs.declared.Refusal.{Refusal}
 use Rattle.wire.specs.declared.Wrote.{Wrote}
 use Rattle.wire.specs.declared.Wrote.the-variants.{Size, Refused}
-use Rattle.wire.proofs.Rules.{all-were, then-stops, then-goes, Went, then-were}
+use Rattle.wire.proofs.Rules.{done-same, all-were, then-stops, then-goes, Went, then-were}
 use Rattle.wire.proofs.Records.{laid-length, laid-size}
 use Rattle.connection_words.proofs.Lengths.{close-length, open-length}
 use Rattle.epath_sizes.specs.Segments.{encode}
@@ -29,7 +29,7 @@ use Rattle.connection_words.specs.Requests.{parameterWidth, openHead, openRest,
 use Rattle.connection_words.specs.declared.Word.{Word}
 use Rattle.connection_words.specs.declared.Word.the-variants.{Bits, Refused as NoWord}
 use Rattle.route.specs.Routes.{routeSize, Ready}
-use Rattle.route.proofs.RouteLaws.{from-stops, from-goes, from-short, Left, left}
+use Rattle.route.proofs.RouteLaws.{route-sized, Left, left}
 use Rattle.forward_sizes.specs.Sizes.{openBase, openSize, closeSize}
 
 -- ---- forwards: what the code's ends answer
@@ -37,19 +37,19 @@ module _ (pool : List ℕ) (p : Path) (r : Wrote) (is : paperSize r ≡ routeSiz
   module _ (e : Refusal) (h : r ≡ Refused e) where
     pub open-stops : (o : OpenOptions) → refused (number e) ≡ openSize pool p o
     unfolding openSize
-    open-stops o = from-stops pool p r is _ e h
+    open-stops o = then-stops _ _ (number e) (sym is ∙ ap paperSize h)
 
     pub close-stops : refused (number e) ≡ closeSize pool p
     unfolding closeSize
-    close-stops = from-stops pool p r is _ e h
+    close-stops = then-stops _ _ (number e) (sym is ∙ ap paperSize h)
 
   module _ (n : ℕ) (h : r ≡ Size n) where
     short : n ≤ maxPath
-    short = from-short pool p r n is h
+    short = route-sized pool p n (sym is ∙ ap paperSize h) .short
 
     pub close-is : done (12 + n) ≡ closeSize pool p
     unfolding closeSize
-    close-is = from-goes pool p r is (λ k. done (12 + k)) n h refl
+    close-is = then-goes _ _ n _ (sym is ∙ ap paperSize h) refl
 
     pub close-fits : Fits w64 (12 + n)
     close-fits = record { fits = omega (arith, short) }
@@ -63,19 +63,14 @@ module _ (pool : List ℕ) (p : Path) (r : Wrote) (is : paperSize r ≡ routeSiz
 
       opened : {z : Answer ℕ} → z ≡ andThen (parameterWord (o .«large_open») (o .«o_t_params»)) (λ _. afterFirst) → z ≡ openSize pool p o
       unfolding openSize afterFirst
-      opened e =
-          from-goes pool p r is
-          (λ k.
-          andThen (parameterWord (o .«large_open») (o .«o_t_params»)) (λ _.
-          andThen (parameterWord (o .«large_open») (o .«t_o_params»)) (λ _. done (openBase (o .«large_open») + k))))
-          n h e
+      opened e = then-goes _ _ n _ (sym is ∙ ap paperSize h) e
 
       pub open-first : (e : Refusal) → v ≡ NoWord e → refused (number e) ≡ openSize pool p o
       open-first e g = opened (then-stops _ _ (number e) (sym one ∙ ap paperWord g))
 
       module _ (a : ℕ) (f : v ≡ Bits a) (w : Word) (two : paperWord w ≡ parameterWord (o .«large_open») (o .«t_o_params»)) where
         second : {z : Answer ℕ} → z ≡ afterFirst → z ≡ openSize pool p o
-        second {z} e = opened (then-goes (parameterWord (o .«large_open») (o .«o_t_params»)) (λ _. afterFirst) a z (sym one ∙ ap paperWord f) e)
+        second {z} e = opened (then-goes _ _ a z (sym one ∙ ap paperWord f) e)
 
         pub open-second : (e : Refusal) → w ≡ NoWord e → refused (number e) ≡ openSize pool p o
         unfolding afterFirst
@@ -83,8 +78,7 @@ module _ (pool : List ℕ) (p : Path) (r : Wrote) (is : paperSize r ≡ routeSiz
 
         pub open-is : (b base : ℕ) → w ≡ Bits b → base ≡ openBase (o .«large_open») → done (base + n) ≡ openSize pool p o
         unfolding afterFirst
-        open-is b base g q =
-            second (then-goes (parameterWord (o .«large_open») (o .«t_o_params»)) (λ _. done (openBase (o .«large_open») + n)) b (done (base + n)) (sym two ∙ ap paperWord g) (rw q))
+        open-is b base g q = second (then-goes _ _ b (done (base + n)) (sym two ∙ ap paperWord g) (rw q))
 
 pub ruleset size-laws = (close-stops, close-is, close-fits, open-stops, open-fits, open-first, open-second, open-is)
 
@@ -92,23 +86,19 @@ pub ruleset size-laws = (close-stops, close-is, close-fits, open-stops, open-fit
 
 pub word-was : (large : Bool) (q : ConnectionParameters) (w : ℕ) → parameterWord large q ≡ done w → parameterWord large q ≡ done (wordOf large q)
 unfolding parameterWord
-word-was large q w h =
-    let k = all-were (over (q .«connection_size») (sizeLimit large) 3 ∷ []) (done (wordOf large q)) w h in
-    h ∙ sym (k .1)
+word-was large q w h = h ∙ sym (all-were _ _ w h .1)
 
 pub word-small-size : (large : Bool) (q : ConnectionParameters) (w : ℕ) → parameterWord large q ≡ done w → q .«connection_size» ≤ sizeLimit large
 unfolding parameterWord
-word-small-size large q w h = all-were (over (q .«connection_size») (sizeLimit large) 3 ∷ []) (done (wordOf large q)) w h .0 .0
+word-small-size large q w h = all-were _ _ w h .0 .0
 
 -- a request that was sized and has its room: its path is ready to be written
 module _ (pool : List ℕ) (p : Path) (r : Wrote) (size : ℕ) (h : r ≡ Size size) where
   pub close-ready : (out : List ℕ) → paperSize r ≡ closeSize pool p → size ≤ length out → Ready pool p 12 out
   unfolding closeSize
   close-ready out is g =
-      let w : Left pool p (λ k. done (12 + k)) size = left pool p (λ k. done (12 + k)) size (sym is ∙ ap paperSize h) in
-      let e : done (12 + w .n) ≡ done size = w .then in
-      let q : 12 + w .n ≡ size = cc in
-      record { size = w .n; is = w .is; short = w .short; room = omega arith }
+      let w = left pool p (λ k. done (12 + k)) size (sym is ∙ ap paperSize h) in
+      record { size = w .n; is = w .is; short = w .short; room = omega (arith, done-same (w .then)) }
 
   module _ (o : OpenOptions) (is : paperSize r ≡ openSize pool p o) where
     abbrev two : ℕ → Answer ℕ
@@ -119,10 +109,10 @@ module _ (pool : List ℕ) (p : Path) (r : Wrote) (size : ℕ) (h : r ≡ Size s
     opening = left pool p (λ k. andThen (parameterWord (o .«large_open») (o .«o_t_params»)) (λ _. two k)) size (sym is ∙ ap paperSize h)
 
     one-went : Went (parameterWord (o .«large_open») (o .«o_t_params»)) (λ _. two (opening .n)) size
-    one-went = then-were (parameterWord (o .«large_open») (o .«o_t_params»)) (λ _. two (opening .n)) size (opening .then)
+    one-went = then-were _ _ size (opening .then)
 
     two-went : Went (parameterWord (o .«large_open») (o .«t_o_params»)) (λ _. done (openBase (o .«large_open») + opening .n)) size
-    two-went = then-were (parameterWord (o .«large_open») (o .«t_o_params»)) (λ _. done (openBase (o .«large_open») + opening .n)) size (one-went .then)
+    two-went = then-were _ _ size (one-went .then)
 
     pub open-one : parameterWord (o .«large_open») (o .«o_t_params») ≡ done (wordOf (o .«large_open») (o .«o_t_params»))
     open-one = word-was (o .«large_open») (o .«o_t_params») (one-went .found) (one-went .is)
@@ -132,9 +122,7 @@ module _ (pool : List ℕ) (p : Path) (r : Wrote) (size : ℕ) (h : r ≡ Size s
 
     pub open-ready : (out : List ℕ) → size ≤ length out → Ready pool p (openBase (o .«large_open»)) out
     open-ready out g =
-        let e : done (openBase (o .«large_open») + opening .n) ≡ done size = two-went .then in
-        let q : openBase (o .«large_open») + opening .n ≡ size = cc in
-        record { size = opening .n; is = opening .is; short = opening .short; room = omega arith }
+        record { size = opening .n; is = opening .is; short = opening .short; room = omega (arith, done-same (two-went .then)) }
 
 pub ruleset ready-laws = (close-ready, open-one, open-two, open-ready)
 
@@ -155,17 +143,12 @@ module _ (pool : List ℕ) (p : Path) (r : Wrote) (size : ℕ) (h : r ≡ Size s
   pub close-sized : (c : ForwardCloseRequest) → paperSize r ≡ closeSize pool p → size ≡ length (closeBytes c path)
   unfolding closeSize
   close-sized c is =
-      let w : Left pool p (λ k. done (12 + k)) size = left pool p (λ k. done (12 + k)) size (sym is ∙ ap paperSize h) in
-      let e : done (12 + w .n) ≡ done size = w .then in
-      let q : 12 + w .n ≡ size = cc in
-      omega (arith, path-sized pool p (w .n) (w .is) .size, close-length c path)
+      let w = left pool p (λ k. done (12 + k)) size (sym is ∙ ap paperSize h) in
+      omega (arith, done-same (w .then), path-sized pool p (w .n) (w .is) .size, close-length c path)
 
   pub open-sized : (o : OpenOptions) → paperSize r ≡ openSize pool p o → size ≡ length (openBytes o path)
   open-sized o is =
       let w = opening pool p r size h o is in
-      let t = two-went pool p r size h o is in
-      let e : done (openBase (o .«large_open») + w .n) ≡ done size = t .then in
-      let q : openBase (o .«large_open») + w .n ≡ size = cc in
-      omega (arith, path-sized pool p (w .n) (w .is) .size, open-length o path, base-widths (o .«large_open»))
+      omega (arith, done-same (two-went pool p r size h o is .then), path-sized pool p (w .n) (w .is) .size, open-length o path, base-widths (o .«large_open»))
 
 pub ruleset length-laws = (close-sized, open-sized)

@@ -126,36 +126,15 @@ module _ (n high b : ℕ) (out : List ℕ) where
 
 pub ruleset char-laws = (blank-next, tab-next, comment-next, low-kept, other-kept, digit-kept, other-next, digit-next)
 
--- ---- one more character of any line
-module _ (l : Line) (b : ℕ) (out : List ℕ) where
-  module _ (n high : ℕ) (is : l ≡ Line.Digits n high) where
-    pub open-next : (r : Line) → r ≡ nextChar n high b → r ≡ next l b
-    unfolding next
-    open-next r e = e ∙ ap (λ (x : Line). next x b) (sym is)
+-- ---- one more character of any line, by what the line is
+module _ (l x : Line) (is : l ≡ x) (b : ℕ) where
+  pub line-next : (r : Line) → r ≡ next x b → r ≡ next l b
+  line-next r e = e ∙ ap (λ (y : Line). next y b) (sym is)
 
-    pub open-kept : (s : List ℕ) → s ≡ keptChar n high b out → s ≡ kept l b out
-    unfolding kept
-    open-kept s e = e ∙ ap (λ (x : Line). kept x b out) (sym is)
+  pub line-kept : (s out : List ℕ) → s ≡ kept x b out → s ≡ kept l b out
+  line-kept s out e = e ∙ ap (λ (y : Line). kept y b out) (sym is)
 
-  module _ (n : ℕ) (is : l ≡ Line.Comment n) where
-    pub done-next : Line.Comment n ≡ next l b
-    unfolding next
-    done-next = ap (λ (x : Line). next x b) (sym is)
-
-    pub done-kept : out ≡ kept l b out
-    unfolding kept
-    done-kept = ap (λ (x : Line). kept x b out) (sym is)
-
-  module _ (is : l ≡ Line.Bad) where
-    pub bad-next : Line.Bad ≡ next l b
-    unfolding next
-    bad-next = ap (λ (x : Line). next x b) (sym is)
-
-    pub bad-kept : out ≡ kept l b out
-    unfolding kept
-    bad-kept = ap (λ (x : Line). kept x b out) (sym is)
-
-pub ruleset next-laws = (open-next, open-kept, done-next, done-kept, bad-next, bad-kept)
+pub ruleset next-laws = (line-next, line-kept)
 
 -- ---- the end of a line
 module _ (n : ℕ) where
@@ -173,17 +152,5 @@ module _ (n : ℕ) where
 
 pub ruleset case-laws = (case-nothing, case-bytes, case-bad)
 
-module _ (l : Line) where
-  pub line-digits : (n high : ℕ) (r : Case) → l ≡ Line.Digits n high → r ≡ caseOf n → r ≡ caseLine l
-  unfolding caseLine
-  line-digits n high r is e = e ∙ ap caseLine (sym is)
-
-  pub line-comment : (n : ℕ) (r : Case) → l ≡ Line.Comment n → r ≡ caseOf n → r ≡ caseLine l
-  unfolding caseLine
-  line-comment n r is e = e ∙ ap caseLine (sym is)
-
-  pub line-bad : l ≡ Line.Bad → Case.Bad ≡ caseLine l
-  unfolding caseLine
-  line-bad is = ap caseLine (sym is)
-
-pub ruleset line-laws = (line-digits, line-comment, line-bad)
+pub line-is : (l x : Line) (r : Case) → l ≡ x → r ≡ caseLine x → r ≡ caseLine l
+line-is l x r is e = e ∙ ap caseLine (sym is)

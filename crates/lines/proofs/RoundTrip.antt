@@ -41,7 +41,6 @@ module _ (n high v : ℕ) (room : n < maxDigits) where
   small = let m : v % 16 < 16 = omega arith in omega (arith, value-digit v, m)
 
   digit-taken : next (Line.Digits n high) (hexDigit v) ≡ Line.Digits (n + 1) (v % 16)
-  unfolding next
   digit-taken =
       sym
       (digit-next n high (hexDigit v) [] (hexValue (hexDigit v)) refl (no-blank 32 (omega arith)) (no-blank 9 (omega arith)) (no-blank 35 (omega arith)) _ small (one-more n high (hexValue (hexDigit v)) [] room))
@@ -49,11 +48,9 @@ module _ (n high v : ℕ) (room : n < maxDigits) where
 
   module _ (out : List ℕ) where
     first-digit : n % 2 ≡ 0 → kept (Line.Digits n high) (hexDigit v) out ≡ out
-    unfolding kept
     first-digit e = sym (digit-kept n high (hexDigit v) out _ refl out small (first-kept n high _ out room e))
 
     second-digit : (n % 2 ≡ 0 → ⊥) → kept (Line.Digits n high) (hexDigit v) out ≡ set out (n / 2) (byteOf high (v % 16))
-    unfolding kept
     second-digit e =
         sym (digit-kept n high (hexDigit v) out _ refl _ small (second-kept n high _ out _ _ room e refl refl))
         ∙ ap (λ (x : ℕ). set out (n / 2) (byteOf high x)) (value-digit v)
@@ -77,7 +74,6 @@ module _ (k high b : ℕ) (out : List ℕ) (byte : b < 256) (room : 2 * k + 2 �
 
 text-taken : (bs : List ℕ) (k high : ℕ) (out : List ℕ) → Bytes bs → 2 * (k + length bs) ≤ maxDigits
     → (caseLine (taken (Line.Digits (2 * k) high) (hexText bs)) ≡ caseOf (2 * (k + length bs))) × (takenBytes (Line.Digits (2 * k) high) (hexText bs) out ≡ sets out k bs)
-unfolding caseLine
 text-taken [] k high out all room = (ap (λ (n : ℕ). caseOf (2 * n)) (omega arith), refl)
 text-taken (b ∷ bs) k high out all room =
     let byte : b < 256 = all 0 in
@@ -108,7 +104,6 @@ text-read-back bs out all some room =
 
 -- neither changes the line or the bytes
 pub blanks-pass : (c : ℕ) → (c ≡ 32) ⊎ (c ≡ 9) → (l : Line) (out : List ℕ) → (next l c ≡ l) × (kept l c out ≡ out)
-unfolding next kept
 blanks-pass c is (Line.Digits n high) out = ⊎-elim
     (λ (e : c ≡ 32). (sym (blank-next n high c out e), sym (low-kept n high c out 32 e refl)))
     (λ (e : c ≡ 9). (sym (tab-next n high c out (λ f. omega (arith, e, f)) e), sym (low-kept n high c out 9 e refl)))

@@ -62,13 +62,13 @@ nextChar n high b =
 unfoldable pub keptChar : ℕ → ℕ → ℕ → List ℕ → List ℕ
 keptChar n high b out = pick (leb noDigit (hexValue b)) out (keptDigit n high (hexValue b) out)
 
-unfoldable pub next : Line → ℕ → Line
+abbrev pub next : Line → ℕ → Line
 next (Line.Digits n high) b = nextChar n high b
 next (Line.Comment n) b = Line.Comment n
 next Line.Bad b = Line.Bad
 
 -- what the lent bytes are after it
-unfoldable pub kept : Line → ℕ → List ℕ → List ℕ
+abbrev pub kept : Line → ℕ → List ℕ → List ℕ
 kept (Line.Digits n high) b out = keptChar n high b out
 kept (Line.Comment n) b out = out
 kept Line.Bad b out = out
@@ -86,7 +86,7 @@ takenBytes l (b ∷ t) out = takenBytes (next l b) t (kept l b out)
 unfoldable pub caseOf : ℕ → Case
 caseOf n = pick (eqb n 0) Case.Nothing (pick (eqb (n % 2) 0) (Case.Bytes (n / 2)) Case.Bad)
 
-unfoldable pub caseLine : Line → Case
+abbrev pub caseLine : Line → Case
 caseLine (Line.Digits n high) = caseOf n
 caseLine (Line.Comment n) = caseOf n
 caseLine Line.Bad = Case.Bad

@@ -1,10 +1,8 @@
 -- Each public function takes every argument, and its contract leaves one answer.
 -- Assumes nothing.
-use mathlib.Core.Path.{_≡_, refl, sym, ap}
+use mathlib.Core.Path.{_≡_, refl, ap}
 use Rattle.exact.specs.Exact.{Exact, exact, says, same}
-use Rattle.wire.specs.Refusals.{number}
-use Rattle.wire.proofs.Rules.{never}
-use Rattle.wire.proofs.Answers.{number-one, count-one}
+use Rattle.wire.proofs.Answers.{one-by, number-back, fromPaper, count-one}
 use Rattle.message_read.specs.Reads.{paperMessage, paperJudged}
 use Rattle.message_read.specs.declared.MessageRead.{MessageRead}
 use Rattle.message_read.specs.declared.MessageRead.the-variants.{Found as FoundMessage, Refused as NoMessage}
@@ -18,16 +16,10 @@ use Rattle.message_read.proofs.route.padded_route_at
 -- ---- an answer's form on paper says which answer it is
 
 pub message-one : (a b : MessageRead) → paperMessage a ≡ paperMessage b → a ≡ b
-message-one (FoundMessage x) (FoundMessage y) h = let p : x ≡ y = cc in rw p
-message-one (FoundMessage x) (NoMessage e) h = never (sym h)
-message-one (NoMessage e) (FoundMessage x) h = never h
-message-one (NoMessage e) (NoMessage f) h = let q : number e ≡ number f = cc in ap NoMessage (number-one e f q)
+message-one = one-by paperMessage (fromPaper FoundMessage NoMessage) (elim [ FoundMessage x ↦ refl | NoMessage e ↦ ap NoMessage (number-back e) ])
 
 pub judged-one : (a b : Judged) → paperJudged a ≡ paperJudged b → a ≡ b
-judged-one Kept Kept h = refl
-judged-one Kept (Broken e) h = never (sym h)
-judged-one (Broken e) Kept h = never h
-judged-one (Broken e) (Broken f) h = let q : number e ≡ number f = cc in ap Broken (number-one e f q)
+judged-one = one-by paperJudged (fromPaper (λ _. Kept) Broken) (elim [ Kept ↦ refl | Broken e ↦ ap Broken (number-back e) ])
 
 -- ---- readers
 

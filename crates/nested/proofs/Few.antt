@@ -7,7 +7,7 @@ use lib.ListN.{length, getD, drop, length-append}
 use Rattle.wire.specs.Parts.{part}
 use Rattle.wire.specs.Numbers.{valueOf}
 use Rattle.wire.specs.Answers.{Answer, done, andThen, under, over, judged}
-use Rattle.wire.proofs.Rules.{never, all-were, Went, then-were}
+use Rattle.wire.proofs.Rules.{never, done-same, all-were, Went, then-were}
 use Rattle.wire.proofs.Stores.{part-length}
 use Rattle.connection.specs.Limits.{maxPath, maxRecord}
 use Rattle.connection.specs.declared.UnconnectedSend.{UnconnectedSend}
@@ -40,11 +40,9 @@ inside s m h =
     let len : ℕ = p .found in
     let q : Went (pathAt s 2 len) (λ n. done (messageAt s len)) m = then-were (pathAt s 2 len) _ m (p .then) in
     let b = all-were (under (length s) 2 1 ∷ over (2 * getD s 1 0) maxPath 3 ∷ []) (done (2 * getD s 1 0)) len (p .is) in
-    let y : done (2 * getD s 1 0) ≡ done len = b .1 in
-    let z : 2 * getD s 1 0 ≡ len = cc in
+    let z : 2 * getD s 1 0 ≡ len = done-same (b .1) in
     let c = all-were (under (length s) (2 + len) 1 ∷ []) _ (q .found) (q .is) in
-    let d : done (messageAt s len) ≡ done m = q .then in
-    let e : messageAt s len ≡ m = cc in
+    let e : messageAt s len ≡ m = done-same (q .then) in
     let l : length (part s (2 + len) (length s - (2 + len))) ≡ length s - (2 + len) = part-length s (2 + len) (length s - (2 + len)) (omega arith) in
     rw (← e) (record { small = w .0 .0; begun = b .0 .0; path = omega (arith, z, b .0 .1 .0); data-is = omega (arith, w .0 .0); held = omega (arith, l, c .0 .0) })
 
@@ -97,8 +95,7 @@ held-weight Plain t xs h = let e : [] ≡ xs = cc in rw (← e) (omega arith)
 held-weight Packet t xs h =
     let w : Went (readBody t) (λ n. done (itemsOf t)) xs = then-were (readBody t) _ xs h in
     let n : ℕ = w .found in
-    let d : done (itemsOf t) ≡ done xs = w .then in
-    let e : itemsOf t ≡ xs = cc in
+    let e : itemsOf t ≡ xs = done-same (w .then) in
     rw (← e, items-all t n (accepted t n (w .is))) (omega (arith, weight-all n t (accepted t n (w .is))))
 held-weight Send t xs h = go (w .found) (w .is) (w .then)
   where

@@ -14,7 +14,7 @@ use Rattle.wire.specs.declared.Refusal.{Refusal}
 use Rattle.wire.specs.declared.Refusal.the-variants.{Depth}
 use Rattle.wire.specs.declared.Counted.{Counted}
 use Rattle.wire.specs.declared.Counted.the-variants.{Count, Refused as NotCounted}
-use Rattle.wire.proofs.Rules.{rules, never}
+use Rattle.wire.proofs.Rules.{rules, never, done-same}
 use Rattle.wire.proofs.Stores.{sets-onto, sets-overlay, part-length}
 use Rattle.wire.proofs.Folds.{joined-append}
 use Rattle.connection.specs.Limits.{maxRecord}
@@ -51,8 +51,7 @@ module _ (s : List ℕ) (n k : ℕ) (r : ItemRead) (is : paperItem r ≡ walkIte
 
   pub item-bytes : (i : Item) (x : List ℕ) → r ≡ FoundItem i → x ≡ part s (i .start) (i .len) → x ≡ bytesIn s (itemAt s n k)
   item-bytes i x f e =
-      let d : done (itemAt s n k) ≡ done i = there ∙ ap paperItem f in
-      let q : itemAt s n k ≡ i = cc in
+      let q : itemAt s n k ≡ i = done-same (there ∙ ap paperItem f) in
       e ∙ ap (bytesIn s) (sym q)
 
   pub item-never : (e : Refusal) (x : List ℕ) → r ≡ NoItem e → x ≡ bytesIn s (itemAt s n k)

@@ -1,10 +1,8 @@
 -- Each public function takes every argument, and its contract leaves one answer.
 -- Assumes nothing.
-use mathlib.Core.Path.{_≡_, refl, sym, ap}
+use mathlib.Core.Path.{_≡_, refl, ap}
 use Rattle.exact.specs.Exact.{Exact, exact, says, same}
-use Rattle.wire.specs.Refusals.{number}
-use Rattle.wire.proofs.Rules.{never}
-use Rattle.wire.proofs.Answers.{number-one}
+use Rattle.wire.proofs.Answers.{one-by, number-back, fromPaper}
 use Rattle.reply_header.specs.Headers.{paperReply}
 use Rattle.reply_header.specs.declared.ReplyRead.{ReplyRead}
 use Rattle.reply_header.specs.declared.ReplyRead.the-variants.{Found, Refused}
@@ -14,10 +12,7 @@ use Rattle.reply_header.proofs.read_reply_header
 
 -- an answer's form on paper says which answer it is
 pub reply-one : (a b : ReplyRead) → paperReply a ≡ paperReply b → a ≡ b
-reply-one (Found x) (Found y) h = let p : x ≡ y = cc in rw p
-reply-one (Found x) (Refused e) h = never (sym h)
-reply-one (Refused e) (Found x) h = never h
-reply-one (Refused e) (Refused f) h = let q : number e ≡ number f = cc in ap Refused (number-one e f q)
+reply-one = one-by paperReply (fromPaper Found Refused) (elim [ Found x ↦ refl | Refused e ↦ ap Refused (number-back e) ])
 
 pub is-ok-exact : Exact is_ok.ended (λ _. is_ok.clauses)
 is-ok-exact = exact (λ w κs a. (tt, λ m. tt)) (λ w κs a g z e. search says) (λ t. (same (t .said) (t .said′), refl))

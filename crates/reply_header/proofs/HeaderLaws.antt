@@ -63,15 +63,14 @@ module _ (s : List ℕ) where
 
       pub header-words : mostWords < w → refused 6 ≡ readHeader s
       unfolding readHeader
-      header-words l = let k : mostWords < getD s 3 0 = omega arith in let i = inside in search rules
+      header-words l = let k : mostWords < getD s 3 0 = omega arith in search (rules, inside)
 
       pub header-found : (b : ℕ) (v : Status) → w ≤ mostWords → b ≡ getD s 0 0 → v ≡ statusAt s
           → done (record { «reply_service» = b; status = v; «data_start» = 4 + 2 * w; «data_len» = length s - (4 + 2 * w) }) ≡ readHeader s
       unfolding readHeader
       header-found b v l e q =
           let k : getD s 3 0 ≤ mostWords = omega arith in
-          let i = inside in
-          let z : done (replyAt s) ≡ readHeader s = search rules in
+          let z : done (replyAt s) ≡ readHeader s = search (rules, inside) in
           rw (e, q, counted) z
 
 pub ruleset header-laws = (status-bare, status-word, header-limit, header-short, header-cut, header-words, header-found)

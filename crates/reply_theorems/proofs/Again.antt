@@ -10,7 +10,7 @@ use Rattle.wire.specs.Numbers.{valueOf, Bytes}
 use Rattle.wire.specs.Parts.{part}
 use Rattle.wire.specs.Answers.{done, under}
 use Rattle.wire.specs.Records.{Field, bytesOf, laid, widths, fieldsAt}
-use Rattle.wire.proofs.Rules.{all-were, then-were}
+use Rattle.wire.proofs.Rules.{done-same, all-were, then-were}
 use Rattle.wire.proofs.Choice.{pick-past}
 use Rattle.wire.proofs.Folds.{joined-append}
 use Rattle.wire.proofs.Records.{fields-again}
@@ -40,8 +40,7 @@ app-was : (s : List ℕ) (at n : ℕ) → appData s at ≡ done n → (2 * getD 
 unfolding appData
 app-was s at n h =
     let w = all-were (under (length s) (at + 2) 1 ∷ under (length s) (at + 2 + 2 * getD s at 0) 1 ∷ []) (done (2 * getD s at 0)) n h in
-    let e : done (2 * getD s at 0) ≡ done n = w .1 in
-    let q : 2 * getD s at 0 ≡ n = cc in
+    let q : 2 * getD s at 0 ≡ n = done-same (w .1) in
     (q, omega (arith, w .0 .1 .0))
 
 pub success-was : {A : Type 0} (fields : List ℕ → ℕ → A) (size : ℕ) (routing : Bool) (s : List ℕ) (m : MessageReply) (x : A) (start len : ℕ)

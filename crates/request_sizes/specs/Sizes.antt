@@ -1,8 +1,8 @@
 -- What the sizes answer. Document 01, "Refusal numbers": the count and the segments, then the whole limits.
 -- Assumes nothing: these are definitions.
 use Prim.Native.Nat.{ℕ, _+_, _%_}
-use mathlib.Core.List.{List, [], _∷_}
-use Rattle.wire.specs.Answers.{Answer, done, over, judged, andThen, withinLimit}
+use mathlib.Core.List.{List}
+use Rattle.wire.specs.Answers.{Answer, andThen, withinLimit}
 use Rattle.epath_sizes.specs.declared.Path.{Path}
 use Rattle.connection.specs.Limits.{maxRecord}
 use Rattle.route.specs.Routes.{routeSize}

@@ -9,7 +9,7 @@ use Rattle.wire.specs.Parts.{part}
 use Rattle.wire.specs.Answers.{done, andThen, under, over, judged}
 use Rattle.wire.specs.Records.{Field, laid, widths, AllHold, fieldsAt}
 use Rattle.wire.proofs.Numbers.{value-low, value-small, bytes-drop, some-power}
-use Rattle.wire.proofs.Rules.{all-keep, all-were, then-were, then-done}
+use Rattle.wire.proofs.Rules.{done-same, all-keep, all-were, then-were, then-done}
 use Rattle.wire.proofs.Records.{fields-back, fields-again, laid-size, past-laid}
 use Rattle.wire.proofs.Stores.{part-length, past-part, part-front, part-end, part-split, part-last}
 use Rattle.connection.specs.Limits.{maxRecord}
@@ -70,8 +70,7 @@ message-written-of-read s m b h =
     let v = then-were (pathBytes s 1) (λ len. andThen (pathAt s 2 len) (λ n. done (messageAt s len))) m (u .1) in
     let len : ℕ = v .found in
     let w = then-were (pathAt s 2 len) (λ n. done (messageAt s len)) m (v .then) in
-    let e : done (messageAt s len) ≡ done m = w .then in
-    let f : messageAt s len ≡ m = cc in
+    let f : messageAt s len ≡ m = done-same (w .then) in
     let z : SizeWas s 1 len = size-was s 1 len (v .is) in
     let p : PathWas s 2 len = path-was s 2 len (w .found) (w .is) in
     let rest : List ℕ = part s (2 + len) (length s - (2 + len)) in

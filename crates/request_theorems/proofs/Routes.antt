@@ -8,7 +8,7 @@ use Rattle.wire.specs.Numbers.{Bytes}
 use Rattle.wire.specs.Parts.{part}
 use Rattle.wire.specs.Answers.{done, under, over, other, judged}
 use Rattle.wire.proofs.Numbers.{bytes-part}
-use Rattle.wire.proofs.Rules.{all-keep, all-were, then-were, then-done}
+use Rattle.wire.proofs.Rules.{done-same, all-keep, all-were, then-were, then-done}
 use Rattle.wire.proofs.Stores.{part-length}
 use Rattle.epath.specs.Paths.{checkPath}
 use Rattle.epath.proofs.Theorems.{checked-even}
@@ -80,8 +80,7 @@ pub size-was : (s : List ℕ) (at len : ℕ) → pathBytes s at ≡ done len →
 unfolding pathBytes
 size-was s at len h =
     let u = all-were (under (length s) (at + 1) 1 ∷ over (2 * getD s at 0) maxPath 3 ∷ []) (done (2 * getD s at 0)) len h in
-    let e : done (2 * getD s at 0) ≡ done len = u .1 in
-    let f : 2 * getD s at 0 ≡ len = cc in
+    let f : 2 * getD s at 0 ≡ len = done-same (u .1) in
     let k : 2 * getD s at 0 ≤ maxPath = u .0 .1 .0 in
     record { here = u .0 .0; is = sym f; short = omega arith }
 
@@ -110,8 +109,7 @@ last-was s size at len n z h =
     let p : PathWas s at len = path-was s at len (w .found) (w .is) in
     let u = all-were (over (length s) (at + len) 8 ∷ []) (done len) n (w .then) in
     let k : length s ≤ at + len = u .0 .0 in
-    let e : done len ≡ done n = u .1 in
-    let f : len ≡ n = cc in
+    let f : len ≡ n = done-same (u .1) in
     rw (← f) (record { sized = z; path = p; whole = omega (arith, p .here) })
 
 pub route-was : (s : List ℕ) (at n : ℕ) → routeAt s at ≡ done n → RouteWas s at (at + 1) n

@@ -1,18 +1,18 @@
 -- The path behind a size byte: its size, its room, its store. Assumes nothing.
 use Prim.Native.Nat.{ℕ, _+_, _-_, _/_, _%_, _≤_, _<_}
 use mathlib.Core.Path.{_≡_, sym, ap, _∙_}
-use mathlib.Core.List.{List, [], _∷_, _++_}
+use mathlib.Core.List.{List, _++_}
 use native.Mathlib.Omega.{arith}
 use lib.ListN.{length, take, drop}
 use lib.Seq.{sets}
 use mir.Val.{Fits}
 use mir.Syntax.{w8, w64}
 use Rattle.wire.specs.Refusals.{number}
-use Rattle.wire.specs.Answers.{Answer, done, refused, paperSize, over, judged, andThen, withRoom, written}
+use Rattle.wire.specs.Answers.{Answer, done, refused, paperSize, andThen, withRoom, written, withinLimit}
 use Rattle.wire.specs.declared.Refusal.{Refusal}
 use Rattle.wire.specs.declared.Wrote.{Wrote}
 use Rattle.wire.specs.declared.Wrote.the-variants.{Size, Refused}
-use Rattle.wire.proofs.Rules.{rules, never, all-were, then-stops, then-goes, Went, then-were}
+use Rattle.wire.proofs.Rules.{rules, never, done-same, then-stops, then-goes, then-were, within-was}
 use Rattle.wire.proofs.Answers.{room-kept}
 use Rattle.wire.proofs.Stores.{length-lent, sets-lent, sets-overlay}
 use Rattle.epath_sizes.specs.Segments.{encode}
@@ -28,12 +28,12 @@ use Rattle.route.specs.Routes.{routeSize, Ready, Routed}
 module _ (pool : List ℕ) (p : Path) (r : Wrote) (is : paperSize r ≡ pathSize pool p) where
   pub route-stops : (e : Refusal) → r ≡ Refused e → refused (number e) ≡ routeSize pool p
   unfolding routeSize
-  route-stops e h = then-stops (pathSize pool p) _ (number e) (sym is ∙ ap paperSize h)
+  route-stops e h = then-stops _ _ (number e) (sym is ∙ ap paperSize h)
 
   module _ (n : ℕ) (h : r ≡ Size n) where
-    judge : {z : Answer ℕ} → z ≡ judged (over n maxPath 3 ∷ []) (done n) → z ≡ routeSize pool p
+    judge : {z : Answer ℕ} → z ≡ withinLimit maxPath n → z ≡ routeSize pool p
     unfolding routeSize
-    judge {z} e = then-goes (pathSize pool p) (λ k. judged (over k maxPath 3 ∷ []) (done k)) n z (sym is ∙ ap paperSize h) e
+    judge {z} e = then-goes _ _ n z (sym is ∙ ap paperSize h) e
 
     pub route-long : maxPath < n → refused 3 ≡ routeSize pool p
     route-long g = judge (search rules)
@@ -55,24 +55,11 @@ pub record RouteSized (pool : List ℕ) (p : Path) (n : ℕ) : Type 0 where
 pub route-sized : (pool : List ℕ) (p : Path) (n : ℕ) → routeSize pool p ≡ done n → RouteSized pool p n
 unfolding routeSize
 route-sized pool p n h =
-    let w : Went (pathSize pool p) (λ k. judged (over k maxPath 3 ∷ []) (done k)) n = then-were (pathSize pool p) (λ k. judged (over k maxPath 3 ∷ []) (done k)) n h in
-    let k = all-were (over (w .found) maxPath 3 ∷ []) (done (w .found)) n (w .then) in
-    let e : done (w .found) ≡ done n = k .1 in
-    let q : w .found ≡ n = cc in
-    record { is = w .is ∙ ap done q; short = rw (← q) (k .0 .0) }
+    let w = then-were _ _ n h in
+    let k = within-was _ _ n (w .then) in
+    record { is = w .is ∙ ap done (k .1); short = rw (← k .1) (k .0) }
 
--- ---- a size that goes on from the path's
-module _ (pool : List ℕ) (p : Path) (r : Wrote) (is : paperSize r ≡ routeSize pool p) (f : ℕ → Answer ℕ) where
-  pub from-stops : (e : Refusal) → r ≡ Refused e → refused (number e) ≡ andThen (routeSize pool p) f
-  from-stops e h = then-stops (routeSize pool p) f (number e) (sym is ∙ ap paperSize h)
-
-  pub from-goes : (n : ℕ) → r ≡ Size n → {z : Answer ℕ} → z ≡ f n → z ≡ andThen (routeSize pool p) f
-  from-goes n h {z} e = then-goes (routeSize pool p) f n z (sym is ∙ ap paperSize h) e
-
-pub from-short : (pool : List ℕ) (p : Path) (r : Wrote) (n : ℕ) → paperSize r ≡ routeSize pool p → r ≡ Size n → n ≤ maxPath
-from-short pool p r n is h = route-sized pool p n (sym is ∙ ap paperSize h) .short
-
--- backwards: the path's size, and what went on from it
+-- ---- a size that went on from the path's
 pub record Left (pool : List ℕ) (p : Path) (f : ℕ → Answer ℕ) (size : ℕ) : Type 0 where
   pub n : ℕ
   pub is : pathSize pool p ≡ done n
@@ -81,8 +68,8 @@ pub record Left (pool : List ℕ) (p : Path) (f : ℕ → Answer ℕ) (size : �
 
 pub left : (pool : List ℕ) (p : Path) (f : ℕ → Answer ℕ) (size : ℕ) → andThen (routeSize pool p) f ≡ done size → Left pool p f size
 left pool p f size h =
-    let w : Went (routeSize pool p) f size = then-were (routeSize pool p) f size h in
-    let r : RouteSized pool p (w .found) = route-sized pool p (w .found) (w .is) in
+    let w = then-were _ _ size h in
+    let r = route-sized pool p (w .found) (w .is) in
     record { n = w .found; is = r .is; short = r .short; then = w .then }
 
 -- ---- storing it in the rest of an output
@@ -103,7 +90,7 @@ module _ (pool : List ℕ) (p : Path) (at : ℕ) (old : List ℕ) (ready : Ready
 
     module _ (n : ℕ) (h : r ≡ Size n) where
       size-is : n ≡ ready .size
-      size-is = let d : done n ≡ done (ready .size) = sym (ap paperSize h) ∙ is ∙ fits in cc
+      size-is = done-same (sym (ap paperSize h) ∙ is ∙ fits)
 
       -- its size in words, and the place behind it
       pub put-words : Fits w8 (n / 2)

@@ -1,11 +1,9 @@
 -- Each public function takes every argument, and its contract leaves one answer.
 -- Assumes nothing.
-use mathlib.Core.Path.{_≡_, refl, sym, ap}
+use mathlib.Core.Path.{_≡_, refl, ap}
 use Rattle.exact.specs.Exact.{Exact, exact, says, same}
-use Rattle.wire.specs.Refusals.{number}
-use Rattle.wire.proofs.Rules.{never}
-use Rattle.wire.proofs.Answers.{number-one}
-use Rattle.connection_words.specs.Fields.{paperTransport}
+use Rattle.wire.proofs.Answers.{one-by, number-back, fromPaper}
+use Rattle.connection_words.specs.Fields.{transport, paperTransport}
 use Rattle.connection_words.specs.declared.TransportRead.{TransportRead}
 use Rattle.connection_words.specs.declared.TransportRead.the-variants.{Found as FoundTransport, Refused as NoTransport}
 use Rattle.transport_words.proofs.fields.transport_class_trigger
@@ -14,14 +12,9 @@ use Rattle.transport_words.proofs.fields.transport_of
 -- ---- an answer's form on paper says which answer it is
 
 pub transport-one : (a b : TransportRead) → paperTransport a ≡ paperTransport b → a ≡ b
-transport-one (FoundTransport d t c) (FoundTransport x y z) h =
-    let p : d ≡ x = cc in
-    let q : t ≡ y = cc in
-    let r : c ≡ z = cc in
-    rw (p, q, r)
-transport-one (FoundTransport d t c) (NoTransport e) h = never (sym h)
-transport-one (NoTransport e) (FoundTransport d t c) h = never h
-transport-one (NoTransport e) (NoTransport f) h = let q : number e ≡ number f = cc in ap NoTransport (number-one e f q)
+transport-one =
+    one-by paperTransport (fromPaper (elim [ transport d t c ↦ FoundTransport d t c ]) NoTransport)
+    (elim [ FoundTransport d t c ↦ refl | NoTransport e ↦ ap NoTransport (number-back e) ])
 
 -- ---- the byte
 

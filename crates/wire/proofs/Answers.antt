@@ -14,42 +14,35 @@ use Rattle.wire.specs.declared.Wrote.{Wrote}
 use Rattle.wire.specs.declared.Wrote.the-variants.{Size, Refused as NotWritten}
 use Rattle.wire.specs.declared.Counted.{Counted}
 use Rattle.wire.specs.declared.Counted.the-variants.{Count, Refused as NotCounted}
-use Rattle.wire.proofs.Rules.{rules, never, all-keep, all-were}
+use Rattle.wire.proofs.Rules.{rules, never, done-same, all-keep, all-were}
 use Rattle.wire.proofs.Stores.{sets-overlay}
 
 -- ---- document 01's numbers tell refusals, and so answers, apart
 
-back : ℕ → Refusal
-back n = getD (Short ∷ Room ∷ Limit ∷ Code ∷ Form ∷ Words ∷ Offset ∷ Leftover ∷ Depth ∷ Envelope ∷ Outside ∷ []) (n - 1) Outside
+-- what can be read back from its form tells itself apart by it
+pub one-by : {A B : Type 0} (form : A → B) (back : B → A) → ((x : A) → back (form x) ≡ x) → (x y : A) → form x ≡ form y → x ≡ y
+one-by form back is x y e = sym (is x) ∙ ap back e ∙ is y
 
-back-number : (e : Refusal) → back (number e) ≡ e
-unfolding back
-back-number Short = refl
-back-number Room = refl
-back-number Limit = refl
-back-number Code = refl
-back-number Form = refl
-back-number Words = refl
-back-number Offset = refl
-back-number Leftover = refl
-back-number Depth = refl
-back-number Envelope = refl
-back-number Outside = refl
+pub refusalOf : ℕ → Refusal
+refusalOf n = getD (Short ∷ Room ∷ Limit ∷ Code ∷ Form ∷ Words ∷ Offset ∷ Leftover ∷ Depth ∷ Envelope ∷ Outside ∷ []) (n - 1) Outside
+
+pub number-back : (e : Refusal) → refusalOf (number e) ≡ e
+unfolding refusalOf
+number-back = elim [ Short ↦ refl | Room ↦ refl | Limit ↦ refl | Code ↦ refl | Form ↦ refl | Words ↦ refl | Offset ↦ refl | Leftover ↦ refl | Depth ↦ refl | Envelope ↦ refl | Outside ↦ refl ]
 
 pub number-one : (a b : Refusal) → number a ≡ number b → a ≡ b
-number-one a b e = sym (back-number a) ∙ ap back e ∙ back-number b
+number-one = one-by number refusalOf number-back
+
+-- an answer of the code, from its form on paper: by what it makes of what was asked for, and by its refusal
+abbrev pub fromPaper : {A R : Type 0} → (A → R) → (Refusal → R) → Answer A → R
+fromPaper found not (done x) = found x
+fromPaper found not (refused k) = not (refusalOf k)
 
 pub size-one : (a b : Wrote) → paperSize a ≡ paperSize b → a ≡ b
-size-one (Size m) (Size n) h = let q : m ≡ n = cc in rw q
-size-one (Size n) (NotWritten e) h = never (sym h)
-size-one (NotWritten e) (Size n) h = never h
-size-one (NotWritten e) (NotWritten f) h = let q : number e ≡ number f = cc in ap NotWritten (number-one e f q)
+size-one = one-by paperSize (fromPaper Size NotWritten) (elim [ Size n ↦ refl | NotWritten e ↦ ap NotWritten (number-back e) ])
 
 pub count-one : (a b : Counted) → paperCount a ≡ paperCount b → a ≡ b
-count-one (Count m) (Count n) h = let q : m ≡ n = cc in rw q
-count-one (Count n) (NotCounted e) h = never (sym h)
-count-one (NotCounted e) (Count n) h = never h
-count-one (NotCounted e) (NotCounted f) h = let q : number e ≡ number f = cc in ap NotCounted (number-one e f q)
+count-one = one-by paperCount (fromPaper Count NotCounted) (elim [ Count n ↦ refl | NotCounted e ↦ ap NotCounted (number-back e) ])
 
 -- ---- sums
 
@@ -83,10 +76,7 @@ room-kept y room n e h = ap (λ (x : Answer ℕ). withRoom x room) e ∙ all-kee
 pub room-was : (y : Answer ℕ) (room n : ℕ) → withRoom y room ≡ done n → (y ≡ done n) × (n ≤ room)
 room-was (done m) room n h =
     let w = all-were (under room m 2 ∷ []) (done m) n h in
-    let l : m ≤ room = w .0 .0 in
-    let e : done m ≡ done n = w .1 in
-    let f : m ≡ n = cc in
-    (e, omega arith)
+    (w .1, omega (arith, w .0 .0, done-same (w .1)))
 room-was (refused k) room n h = never h
 
 -- ---- the three ends of a writer that sized its bytes as y: what it answers, and what the lent output then holds

@@ -15,8 +15,8 @@ use Rattle.wire.specs.Parts.{part}
 
 -- ---- a number at a place
 
-at-drop : (s : List ℕ) (at k : ℕ) → getD (drop k (drop at s)) 0 0 ≡ getD s (at + k) 0
-at-drop s at k = rw (drop-drop k at s, getD-drop (at + k) s 0 0, add-zero (at + k))
+pub byte-here : (s : List ℕ) (at : ℕ) → getD (drop at s) 0 0 ≡ getD s at 0
+byte-here s at = getD-drop at s 0 0 ∙ rw (add-zero at)
 
 pub byte-past : (s : List ℕ) (at : ℕ) → length s ≤ at → 0 ≡ getD s at 0
 byte-past s at h = sym (List·getD-eq-default s 0 h)
@@ -34,8 +34,7 @@ value-past k s at h = rw (drop-of-length-le s h) (value-none k)
 pub value-two : (s : List ℕ) (at a b : ℕ) → a ≡ getD s at 0 → b ≡ getD s (at + 1) 0 → a + 256 * b ≡ valueOf 2 (drop at s)
 unfolding valueOf
 value-two s at a b p q =
-    let e : getD (drop at s) 0 0 ≡ getD s at 0 = getD-drop at s 0 0 ∙ rw (add-zero at) in
-    omega (arith, e, at-drop s at 1)
+    omega (arith, byte-here s at, ap (λ (l : List ℕ). getD l 0 0) (drop-drop 1 at s) ∙ byte-here s (at + 1))
 
 pub value-four : (s : List ℕ) (at a b : ℕ) → a ≡ valueOf 2 (drop at s) → b ≡ valueOf 2 (drop (at + 2) s) → a + 65536 * b ≡ valueOf 4 (drop at s)
 unfolding valueOf

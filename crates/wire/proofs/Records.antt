@@ -5,10 +5,10 @@ use mathlib.Core.List.{List, [], _∷_, _++_, append-assoc, append-nil}
 use native.Mathlib.Nat.{add-zero, add-assoc}
 use native.Mathlib.Omega.{arith}
 use lib.ListN.{length, getD, take, drop, length-append, length-drop, take-append-drop}
-use lib.Seq.{sets, drop-drop, getD-drop}
+use lib.Seq.{sets, drop-drop}
 use Rattle.wire.specs.Numbers.{valueOf, Bytes}
 use Rattle.wire.specs.Records.{Field, byte, num, bytesOf, laid, width, widths, Holds, AllHold, fieldAt, fieldsAt}
-use Rattle.wire.proofs.Numbers.{value-low, low-value, low-length, bytes-drop, first-one}
+use Rattle.wire.proofs.Numbers.{byte-here, value-low, low-value, low-length, bytes-drop, first-one}
 use Rattle.wire.proofs.Stores.{sets-onto, past-part}
 use Rattle.wire.proofs.Folds.{joined-append}
 
@@ -31,8 +31,7 @@ past-laid s fs b at e = ap (λ (k : ℕ). drop (at + k) s) (sym (laid-length fs)
 
 field-back : (f : Field) (s rest : List ℕ) (at : ℕ) → Holds f → drop at s ≡ bytesOf f ++ rest → fieldAt f s at ≡ f
 field-back (byte v) s rest at h e =
-    let g : getD s at 0 ≡ v = ap (λ (k : ℕ). getD s k 0) (sym (add-zero at)) ∙ sym (getD-drop at s 0 0) ∙ ap (λ (l : List ℕ). getD l 0 0) e in
-    ap byte g
+    ap byte (sym (byte-here s at) ∙ ap (λ (l : List ℕ). getD l 0 0) e)
 field-back (num k v) s rest at h e = ap (num k) (ap (valueOf k) e ∙ value-low k v rest h)
 
 -- what stands behind a field
@@ -45,12 +44,19 @@ fields-back (f ∷ fs) s rest at h e =
     let g : drop at s ≡ bytesOf f ++ (laid fs ++ rest) = e ∙ append-assoc (bytesOf f) (laid fs) rest in
     rw (field-back f s (laid fs ++ rest) at (h .0) g, fields-back fs s rest (at + width f) (h .1) (past f s (laid fs ++ rest) at g))
 
+-- a field's number, by its place in the list of fields
+abbrev numberIn : Field → ℕ
+numberIn (byte v) = v
+numberIn (num k v) = v
+
+abbrev pub field : ℕ → List Field → ℕ
+field i fs = numberIn (getD fs i (byte 0))
+
 -- ---- written of read
 
 field-again : (f : Field) (s : List ℕ) (at : ℕ) → Bytes s → at + width f ≤ length s → bytesOf (fieldAt f s at) ≡ take (width f) (drop at s)
 field-again (byte v) s at b h =
-    let e : getD (drop at s) 0 0 ≡ getD s at 0 = getD-drop at s 0 0 ∙ ap (λ (k : ℕ). getD s k 0) (add-zero at) in
-    sym (first-one (drop at s) (simp length-drop (omega arith)) ∙ rw e)
+    sym (first-one (drop at s) (simp length-drop (omega arith)) ∙ rw (byte-here s at))
 field-again (num k v) s at b h = low-value k (drop at s) (bytes-drop s at b) (simp length-drop (omega arith))
 
 pub fields-again : (fs : List Field) (s : List ℕ) (at : ℕ) → Bytes s → at + widths fs ≤ length s → laid (fieldsAt fs s at) ++ drop (at + widths fs) s ≡ drop at s

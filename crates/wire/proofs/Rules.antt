@@ -1,56 +1,21 @@
 -- Rules in order: a law for a rule that is kept and one for a rule that is broken, over any answer. Assumes nothing.
-use Prim.Native.Nat.{ℕ, _≤_, _<_}
+use Prim.Native.Nat.{ℕ, _≤_}
 use mathlib.Core.Path.{_≡_, refl, sym, ap, _∙_}
 use mathlib.Core.List.{List, [], _∷_}
 use mathlib.Core.Bool.{Bool, true, false, not}
 use native.Mathlib.Omega.{arith}
 use lib.Dec.{eqb}
 use borrow.Author.Tests.{ltb-false, lt-ltb, le-ltb, eq-eqb, ne-eqb, eqb-true, not-false}
-use Rattle.wire.specs.Answers.{Answer, done, refused, andThen, Rule, under, over, other, breaks, numberOf, judged, Keeps, KeepsAll, withinLimit}
+use Rattle.wire.specs.Answers.{Answer, done, refused, andThen, Rule, under, over, other, breaks, numberOf, judged, Keeps, Breaks, KeepsAll, withinLimit}
 
 pub never : {A B : Type 0} {x : A} {k : ℕ} → refused k ≡ done x → B
 never h = absurd (let z : _≡_ {A = ℕ} 0 1 = cc in omega arith)
 
-module _ {A : Type 0} (rs : List Rule) (y : Answer A) where
-  bad : (r : Rule) → breaks r ≡ true → judged (r ∷ rs) y ≡ refused (numberOf r)
-  unfolding judged
-  bad r p = simp (p, judged)
-
-  next : (r : Rule) → breaks r ≡ false → judged (r ∷ rs) y ≡ judged rs y
-  unfolding judged
-  next r p = simp (p, judged)
-
-  pub under-kept : (x a e : ℕ) (z : Answer A) → a ≤ x → z ≡ judged rs y → z ≡ judged (under x a e ∷ rs) y
-  unfolding breaks
-  under-kept x a e z f h = h ∙ sym (next (under x a e) (le-ltb x a f))
-
-  pub under-broken : (x a e : ℕ) (z : Answer A) → x < a → z ≡ refused e → z ≡ judged (under x a e ∷ rs) y
-  unfolding breaks numberOf
-  under-broken x a e z f h = h ∙ sym (bad (under x a e) (lt-ltb x a f))
-
-  pub over-kept : (x a e : ℕ) (z : Answer A) → x ≤ a → z ≡ judged rs y → z ≡ judged (over x a e ∷ rs) y
-  unfolding breaks
-  over-kept x a e z f h = h ∙ sym (next (over x a e) (le-ltb a x f))
-
-  pub over-broken : (x a e : ℕ) (z : Answer A) → a < x → z ≡ refused e → z ≡ judged (over x a e ∷ rs) y
-  unfolding breaks numberOf
-  over-broken x a e z f h = h ∙ sym (bad (over x a e) (lt-ltb a x f))
-
-  pub other-kept : (x a e : ℕ) (z : Answer A) → x ≡ a → z ≡ judged rs y → z ≡ judged (other x a e ∷ rs) y
-  unfolding breaks
-  other-kept x a e z f h = h ∙ sym (next (other x a e) (ap not (eq-eqb x a f)))
-
-  pub other-broken : (x a e : ℕ) (z : Answer A) → (x ≡ a → ⊥) → z ≡ refused e → z ≡ judged (other x a e ∷ rs) y
-  unfolding breaks numberOf
-  other-broken x a e z f h = h ∙ sym (bad (other x a e) (ap not (ne-eqb x a f)))
-
-pub all-kept : {A : Type 0} (y z : Answer A) → z ≡ y → z ≡ judged [] y
-unfolding judged
-all-kept y z h = h
-
-pub ruleset rules = (under-kept, under-broken, over-kept, over-broken, other-kept, other-broken, all-kept)
+pub done-same : {A : Type 0} {x y : A} → done x ≡ done y → x ≡ y
+done-same h = cc
 
 -- ---- a rule is broken, or what it asks holds
+
 kept : (r : Rule) → breaks r ≡ false → Keeps r
 unfolding breaks
 kept (under x a e) h = ltb-false x a h
@@ -62,6 +27,33 @@ unfolding breaks
 keeps (under x a e) h = le-ltb x a h
 keeps (over x a e) h = le-ltb a x h
 keeps (other x a e) h = ap not (eq-eqb x a h)
+
+broken : (r : Rule) → Breaks r → breaks r ≡ true
+unfolding breaks
+broken (under x a e) h = lt-ltb x a h
+broken (over x a e) h = lt-ltb a x h
+broken (other x a e) h = ap not (ne-eqb x a h)
+
+module _ {A : Type 0} (rs : List Rule) (y : Answer A) (r : Rule) where
+  bad : breaks r ≡ true → judged (r ∷ rs) y ≡ refused (numberOf r)
+  unfolding judged
+  bad p = simp (p, judged)
+
+  next : breaks r ≡ false → judged (r ∷ rs) y ≡ judged rs y
+  unfolding judged
+  next p = simp (p, judged)
+
+  pub rule-kept : (z : Answer A) → Keeps r → z ≡ judged rs y → z ≡ judged (r ∷ rs) y
+  rule-kept z k h = h ∙ sym (next (keeps r k))
+
+  pub rule-broken : (z : Answer A) → Breaks r → z ≡ refused (numberOf r) → z ≡ judged (r ∷ rs) y
+  rule-broken z b h = h ∙ sym (bad (broken r b))
+
+pub none-left : {A : Type 0} (y z : Answer A) → z ≡ y → z ≡ judged [] y
+unfolding judged
+none-left y z h = h
+
+pub ruleset rules = (rule-kept, rule-broken, none-left)
 
 -- forwards: where all rules are kept the answer is given
 pub all-keep : {A : Type 0} (rs : List Rule) (y : Answer A) → KeepsAll rs → judged rs y ≡ y
@@ -86,8 +78,7 @@ within-is most n h = all-keep (over n most 3 ∷ []) (done n) (h, tt)
 pub within-was : (most n size : ℕ) → withinLimit most n ≡ done size → (n ≤ most) × (n ≡ size)
 within-was most n size h =
     let w = all-were (over n most 3 ∷ []) (done n) size h in
-    let d : done n ≡ done size = w .1 in
-    (w .0 .0, cc)
+    (w .0 .0, done-same (w .1))
 
 -- a refusal by the rules does not depend on what they guard
 pub same-refusal : {A B : Type 0} (rs : List Rule) (x : A) (y : Answer B) (k : ℕ) → judged rs (done x) ≡ refused k → judged rs y ≡ refused k

@@ -92,10 +92,6 @@ module _ {A : Type 0} where
       ∙ sym (sets-part l a n 0)
       ∙ ap (λ (k : ℕ). sets l k a) (add-zero n)
 
-  -- a part that comes back as it was leaves the whole as it was
-  pub lent-same : (l : List A) (n : ℕ) → take n l ++ (take (length l - n) (drop n l) ++ drop (length l - n) (drop n l)) ≡ l
-  lent-same l n = ap (λ (d : List A). take n l ++ d) (take-append-drop (length l - n) (drop n l)) ∙ take-append-drop n l
-
 -- ---- parts with a start and a length
 
 -- the code's way to say a part
@@ -149,11 +145,8 @@ store-past l at b h = sym (set-out l at b h)
 pub store-two : (old a b : List ℕ) (at v : ℕ) → a ≡ set old at (v % 256) → b ≡ set a (at + 1) (v / 256 % 256) → b ≡ sets old at (lowFirst 2 v)
 store-two old a b at v e f = rw (f, e, add-one at)
 
-pub store-two-past : (old : List ℕ) (at v : ℕ) → length old ≤ at → old ≡ sets old at (lowFirst 2 v)
-store-two-past old at v h = sym (sets-past old (lowFirst 2 v) at h)
-
-pub store-four-past : (old : List ℕ) (at v : ℕ) → length old ≤ at → old ≡ sets old at (lowFirst 4 v)
-store-four-past old at v h = sym (sets-past old (lowFirst 4 v) at h)
+pub store-low-past : (k : ℕ) (old : List ℕ) (at v : ℕ) → length old ≤ at → old ≡ sets old at (lowFirst k v)
+store-low-past k old at v h = sym (sets-past old (lowFirst k v) at h)
 
 -- the second byte of a number's low half is that of the number
 second-byte : (w : ℕ) → w % 65536 / 256 % 256 ≡ w / 256 % 256
@@ -174,7 +167,7 @@ pub store-four : (old a b : List ℕ) (at v : ℕ) → a ≡ sets old at (lowFir
 store-four old a b at v e f =
     sets-onto old a b (lowFirst 2 (v % 65536)) (lowFirst 2 (v / 65536 % 65536)) at (at + 2) e refl f ∙ ap (λ (l : List ℕ). sets old at l) (halves v)
 
-pub ruleset store-laws = (store-past, store-two, store-two-past, store-four, store-four-past)
+pub ruleset store-laws = (store-past, store-two, store-four, store-low-past)
 
 -- ---- a loop that copies the first n of src to `at`
 pub record Copying (old : List ℕ) (at : ℕ) (src : List ℕ) (n : ℕ) (out : List ℕ) (i : ℕ) : Type 0 where

@@ -1,5 +1,5 @@
 -- Answers, and rules in the order in which they are judged. Assumes nothing: these are definitions.
-use Prim.Native.Nat.{ℕ, _+_, _≤_}
+use Prim.Native.Nat.{ℕ, _+_, _≤_, _<_}
 use mathlib.Core.Path.{_≡_}
 use mathlib.Core.List.{List, [], _∷_}
 use mathlib.Core.Bool.{Bool, true, false, not}
@@ -42,7 +42,7 @@ breaks (under x a e) = ltb x a
 breaks (over x a e) = ltb a x
 breaks (other x a e) = not (eqb x a)
 
-unfoldable pub numberOf : Rule → ℕ
+abbrev pub numberOf : Rule → ℕ
 numberOf (under x a e) = e
 numberOf (over x a e) = e
 numberOf (other x a e) = e
@@ -52,11 +52,16 @@ unfoldable pub judged : {A : Type 0} → List Rule → Answer A → Answer A
 judged [] y = y
 judged (r ∷ rs) y = elim (breaks r) [ true ↦ refused (numberOf r) | false ↦ judged rs y ]
 
--- what a rule asks, and what a list of them does
+-- what a rule asks, how it is broken, and what a list of them asks
 abbrev pub Keeps : Rule → Type 0
 Keeps (under x a e) = a ≤ x
 Keeps (over x a e) = x ≤ a
 Keeps (other x a e) = x ≡ a
+
+abbrev pub Breaks : Rule → Type 0
+Breaks (under x a e) = x < a
+Breaks (over x a e) = a < x
+Breaks (other x a e) = x ≡ a → ⊥
 
 abbrev pub KeepsAll : List Rule → Type 0
 KeepsAll [] = Unit {0}

@@ -1,7 +1,7 @@
 -- `lines::line_case` meets its contract. Assumes nothing.
---: use Rattle.lines.proofs.LineLaws.{line-laws}
---: * = search (line-laws, needs) fits 5000
-use Rattle.lines.proofs.LineLaws.{line-laws}
+--: use Rattle.lines.proofs.LineLaws.{line-is}
+--: * = search (line-is, needs) fits 5000
+use Rattle.lines.proofs.LineLaws.{line-is}
 use borrow.Author.Needs.{needs}
 use Rattle.lines.proofs.line_case.Statement.{statement}
 use Rattle.lines.proofs.line_case.Tie as tie
@@ -22,13 +22,13 @@ enum-told : tie.Need-enum-told
 enum-told c = search needs
 
 returns : tie.Need-returns
-returns c = search (line-laws, needs) fits 5000
+returns c = search (line-is, needs) fits 5000
 
 returns-2 : tie.Need-returns-2
-returns-2 c = search (line-laws, needs) fits 5000
+returns-2 c = search (line-is, needs) fits 5000
 
 returns-3 : tie.Need-returns-3
-returns-3 c = search (line-laws, needs) fits 5000
+returns-3 c = search (line-is, needs) fits 5000
 
 pub line-case-spec : {M : Type 1} → statement M
 line-case-spec =
