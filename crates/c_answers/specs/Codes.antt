@@ -2,6 +2,7 @@
 use Prim.Native.Nat.{ℕ, _+_, _-_, _≤_, _<_}
 use mathlib.Core.List.{List, []}
 use lib.ListN.{length}
+use Rattle.wire.specs.Refusals.{lastNumber}
 use Rattle.wire.specs.Answers.{Answer, done, refused, andThen, withRoom, written}
 
 -- 2 to the 64, where the numbers end
@@ -38,7 +39,7 @@ runLeft a old = written (runAnswer a old) (numbers a) old
 abbrev pub runOf : {A : Type 0} → (A → List ℕ) → Answer A → Answer (List ℕ)
 runOf f a = andThen a (λ v. done (f v))
 
--- ---- the answers that are told apart: a size below that half, and document 01's eleven refusals
+-- ---- the answers that are told apart: a size below that half, and document 01's refusals
 abbrev pub Told : Answer ℕ → Type 0
 Told (done n) = n < twoTo63
-Told (refused k) = (1 ≤ k) × (k ≤ 11)
+Told (refused k) = (1 ≤ k) × (k ≤ lastNumber)

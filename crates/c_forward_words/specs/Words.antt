@@ -5,7 +5,7 @@ use mathlib.Core.Bool.{Bool}
 use mathlib.Core.List.{List, [], _∷_}
 use Rattle.wire.specs.Answers.{Answer, over, judged}
 use Rattle.connection.specs.declared.ConnectionParameters.{ConnectionParameters}
-use Rattle.connection_words.specs.Codes.{bit, variableNumber, priorityNumber, typeNumber, variableOf, priorityOf, typeOf}
+use Rattle.connection_words.specs.Codes.{lastPriority, lastType, bit, variableNumber, priorityNumber, typeNumber, variableOf, priorityOf, typeOf}
 use Rattle.connection_words.specs.Fields.{parameterWord, readParameters}
 use Rattle.c_answers.specs.Codes.{runOf}
 
@@ -21,7 +21,7 @@ parametersFrom owner kind variable level size = record {
 -- numbers that name no type and no priority are refused, then a size that the word can't hold
 unfoldable pub encodedParameters : Bool → Bool → ℕ → Bool → ℕ → ℕ → Answer ℕ
 encodedParameters large owner kind variable level size =
-    judged (over kind 2 4 ∷ over level 3 4 ∷ []) (parameterWord large (parametersFrom owner kind variable level size))
+    judged (over kind lastType 4 ∷ over level lastPriority 4 ∷ []) (parameterWord large (parametersFrom owner kind variable level size))
 
 abbrev pub parameterNumbers : ConnectionParameters → List ℕ
 parameterNumbers p =

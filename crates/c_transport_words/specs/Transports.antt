@@ -7,7 +7,7 @@ use Rattle.wire.specs.Answers.{Answer, done, over, judged}
 use Rattle.connection.specs.declared.Direction.{Direction}
 use Rattle.connection.specs.declared.TriggerType.{TriggerType}
 use Rattle.connection.specs.declared.TransportClass.{TransportClass}
-use Rattle.connection_words.specs.Codes.{bit, directionNumber, triggerNumber, classNumber, directionOf, triggerOf, classOf}
+use Rattle.connection_words.specs.Codes.{lastTrigger, lastClass, bit, directionNumber, triggerNumber, classNumber, directionOf, triggerOf, classOf}
 use Rattle.connection_words.specs.Fields.{Transport, transport, readTransport}
 use Rattle.c_answers.specs.Codes.{runOf}
 
@@ -18,7 +18,7 @@ transportByte d t c = 128 * directionNumber d + 16 * triggerNumber t + classNumb
 -- numbers that name no trigger and no class are refused
 unfoldable pub encodedTransport : Bool → ℕ → ℕ → Answer ℕ
 encodedTransport server trigger class =
-    judged (over trigger 2 4 ∷ over class 6 4 ∷ []) (done (transportByte (directionOf (bit server)) (triggerOf trigger) (classOf class)))
+    judged (over trigger lastTrigger 4 ∷ over class lastClass 4 ∷ []) (done (transportByte (directionOf (bit server)) (triggerOf trigger) (classOf class)))
 
 abbrev pub transportNumbers : Transport → List ℕ
 transportNumbers (transport d t c) = directionNumber d ∷ triggerNumber t ∷ classNumber c ∷ []

@@ -11,7 +11,7 @@ use Rattle.wire.specs.Numbers.{valueOf}
 use Rattle.wire.specs.Answers.{Answer, done, refused, breaks, numberOf, judged}
 use Rattle.epath_sizes.specs.Segments.{padded}
 use Rattle.epath_sizes.specs.Sizes.{segmentSize}
-use Rattle.epath_segment.specs.Reads.{formOf, lookup, readWide, readSeg}
+use Rattle.epath_segment.specs.Reads.{formOf, formIn, readWide, readSeg}
 use Rattle.epath.specs.Paths.{walk, checkPath}
 use Rattle.reply_header.specs.Headers.{readHeader}
 use Rattle.body_encode.specs.Bodies.{bodyOf}
@@ -56,7 +56,7 @@ each (c ∷ cs) none h k l = go (right c) refl (λ (g : every cs ≡ true) (n : 
 -- ---- document 01's table
 
 all-right : every cards ≡ true
-unfolding segmentSize padded checkPath walk readSeg readWide formOf lookup readHeader joinSize joinOf bodyOf itemsOf readBody sameBytes judged breaks numberOf valueOf
+unfolding segmentSize padded checkPath walk readSeg readWide formOf formIn readHeader joinSize joinOf bodyOf itemsOf readBody sameBytes judged breaks numberOf valueOf
 all-right = refl
 
 pub each-card : (none : Card) (k : ℕ) → k < length cards → True (getD cards k none)

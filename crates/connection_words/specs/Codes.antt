@@ -57,6 +57,20 @@ classNumber Class4 = 4
 classNumber Class5 = 5
 classNumber Class6 = 6
 
+-- ---- the last number of each field that stands for something
+
+abbrev pub lastPriority : ℕ
+lastPriority = 3
+
+abbrev pub lastType : ℕ
+lastType = 2
+
+abbrev pub lastTrigger : ℕ
+lastTrigger = 2
+
+abbrev pub lastClass : ℕ
+lastClass = 6
+
 -- ---- back, where a number is none of the reserved ones
 
 abbrev pub variableOf : ℕ → VariableLength

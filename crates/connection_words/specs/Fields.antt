@@ -7,7 +7,7 @@ use lib.Dec.{eqb}
 use Rattle.wire.specs.Refusals.{number}
 use Rattle.wire.specs.Answers.{Answer, done, refused, Rule, over, other, judged}
 use Rattle.connection.specs.Limits.{sizeLimit}
-use Rattle.connection_words.specs.Codes.{bit, variableNumber, priorityNumber, typeNumber, directionNumber, triggerNumber, classNumber, variableOf, priorityOf, typeOf, directionOf, triggerOf, classOf}
+use Rattle.connection_words.specs.Codes.{lastType, lastTrigger, lastClass, bit, variableNumber, priorityNumber, typeNumber, directionNumber, triggerNumber, classNumber, variableOf, priorityOf, typeOf, directionOf, triggerOf, classOf}
 use Rattle.connection.specs.declared.ConnectionParameters.{ConnectionParameters}
 use Rattle.connection.specs.declared.OpenOptions.{OpenOptions}
 use Rattle.connection.specs.declared.Direction.{Direction}
@@ -57,7 +57,7 @@ wordRules large w =
     over (w % unit large) (sizeLimit large) 5
     ∷ over (w / unit large) 127 5
     ∷ other (w / unit large / 8 % 2) 0 5
-    ∷ over (w / unit large / 16 % 4) 2 4
+    ∷ over (w / unit large / 16 % 4) lastType 4
     ∷ []
 
 unfoldable pub readParameters : Bool → ℕ → Answer ConnectionParameters
@@ -72,7 +72,7 @@ pub data Transport : Type 0 where
   transport : Direction → TriggerType → TransportClass → Transport
 
 abbrev pub transportRules : ℕ → List Rule
-transportRules b = over (b / 16 % 8) 2 4 ∷ over (b % 16) 6 4 ∷ []
+transportRules b = over (b / 16 % 8) lastTrigger 4 ∷ over (b % 16) lastClass 4 ∷ []
 
 unfoldable pub readTransport : ℕ → Answer Transport
 readTransport b = judged (transportRules b) (done (transport (directionOf (b / 128)) (triggerOf (b / 16 % 8)) (classOf (b % 16))))

@@ -8,13 +8,13 @@ use mir.Val.{Fits}
 use mir.Syntax.{w16, w64}
 use Rattle.wire.specs.Numbers.{valueOf}
 use Rattle.wire.specs.Refusals.{number}
-use Rattle.wire.specs.Answers.{Answer, done, refused, andThen, under, over, judged, paperCount}
+use Rattle.wire.specs.Answers.{Answer, done, refused, andThen, under, over, judged, paperCount, orZero}
 use Rattle.wire.specs.declared.Refusal.{Refusal}
 use Rattle.wire.specs.declared.Counted.{Counted}
 use Rattle.wire.specs.declared.Counted.the-variants.{Count, Refused as NotCounted}
 use Rattle.wire.proofs.Rules.{rules, then-stops, then-goes}
 use Rattle.wire.proofs.Choice.{pick-here, pick-past}
-use Rattle.envelope.specs.Envelopes.{connectedAddress, connectedData, nullAddress, unconnectedData, Held, unconnected, connected, itemLength, unconnectedAt, connectedAt, readEnvelope, most}
+use Rattle.envelope.specs.Envelopes.{connectedAddress, connectedData, nullAddress, unconnectedData, Held, unconnected, connected, itemLength, unconnectedAt, connectedAt, readEnvelope}
 
 -- ---- one item
 module _ (kind : ℕ) (s : List ℕ) (at : ℕ) where
@@ -64,7 +64,7 @@ module _ (s : List ℕ) (r : Counted) (e : Refusal) (h : r ≡ NotCounted e) whe
 
 module _ (s : List ℕ) (r : Counted) (a : ℕ) (h : r ≡ Count a) (q : Counted) where
   -- places behind the address
-  module _ (l : most r ≤ 65535) where
+  module _ (l : orZero (paperCount r) ≤ 65535) where
     near : a ≤ 65535
     near = rw h at l
 
@@ -80,7 +80,7 @@ module _ (s : List ℕ) (r : Counted) (a : ℕ) (h : r ≡ Count a) (q : Counted
     pub count-fits : Fits w64 (10 + a + 2)
     count-fits = record { fits = omega (arith, near) }
 
-    pub end-fits : (n : ℕ) → q ≡ Count n → most q ≤ 65535 → Fits w64 (10 + a + n)
+    pub end-fits : (n : ℕ) → q ≡ Count n → orZero (paperCount q) ≤ 65535 → Fits w64 (10 + a + n)
     end-fits n f m = let k : n ≤ 65535 = rw f at m in record { fits = omega (arith, near) }
 
   module _ (is : paperCount r ≡ itemLength nullAddress s 2) (of : paperCount q ≡ itemLength unconnectedData s (6 + a)) where

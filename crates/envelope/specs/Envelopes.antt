@@ -8,8 +8,6 @@ use Rattle.wire.specs.Choice.{pick}
 use Rattle.wire.specs.Numbers.{valueOf}
 use Rattle.wire.specs.Refusals.{number}
 use Rattle.wire.specs.Answers.{Answer, done, refused, andThen, Rule, under, over, other, judged}
-use Rattle.wire.specs.declared.Counted.{Counted}
-use Rattle.wire.specs.declared.Counted.the-variants.{Count, Refused as NotCounted}
 use Rattle.envelope.specs.declared.EnvelopeRead.{EnvelopeRead}
 use Rattle.envelope.specs.declared.EnvelopeRead.the-variants.{Unconnected, Connected, Refused}
 
@@ -72,8 +70,3 @@ abbrev pub paperEnvelope : EnvelopeRead → Answer Held
 paperEnvelope (Unconnected start len) = done (unconnected start len)
 paperEnvelope (Connected count start len) = done (connected count start len)
 paperEnvelope (Refused e) = refused (number e)
-
--- how many were counted
-abbrev pub most : Counted → ℕ
-most (Count n) = n
-most (NotCounted e) = 0

@@ -5,8 +5,8 @@ use wire::Refusal;
 use wire_read::u16_at;
 ghost use mathlib.Core.Path.{_≡_};
 ghost use Prim.Native.Nat.{_≤_};
-ghost use Rattle.wire.specs.Answers.{paperCount};
-ghost use Rattle.envelope.specs.Envelopes.{most, itemLength, unconnectedAt, connectedAt, readEnvelope, paperEnvelope};
+ghost use Rattle.wire.specs.Answers.{paperCount, orZero};
+ghost use Rattle.envelope.specs.Envelopes.{itemLength, unconnectedAt, connectedAt, readEnvelope, paperEnvelope};
 
 // ---- item types, each beside its twin in specs/Envelopes.antt
 
@@ -29,7 +29,7 @@ pub enum EnvelopeRead {
 fn item_at(kind: u16, s: &[u8], at: usize) -> Counted
     requires { ⌜ at ≤ 70000 ⌝ }
     ensures answer { λ r. ⌜ paperCount r ≡ itemLength kind (now (s .entry)) at ⌝ }
-    ensures small { λ r. ⌜ most r ≤ 65535 ⌝ }
+    ensures small { λ r. ⌜ orZero (paperCount r) ≤ 65535 ⌝ }
 {
     if s.len() < at + 2 {
         return Counted::Refused(Refusal::Short);

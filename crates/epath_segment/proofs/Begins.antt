@@ -8,7 +8,7 @@ use borrow.Author.Tests.{ltb-true, eqb-true}
 use Rattle.epath_sizes.specs.Limits.{portEnd, elementCode, symbolCode}
 use Rattle.epath_segment.specs.declared.decode.Form.{Form}
 use Rattle.epath_segment.specs.declared.decode.Form.the-variants.{Port as fPort, Symbol as fSymbol, Narrow, Wide, Widest, Unknown}
-use Rattle.epath_segment.specs.Reads.{FormRow, formRow, table, lookup, formOf}
+use Rattle.epath_segment.specs.Reads.{FormRow, formRow, table, formIn, formOf}
 use Rattle.epath_segment.proofs.ReadLaws.{codeOf}
 
 -- what a first byte that has a form is
@@ -26,12 +26,12 @@ module _ (b : ℕ) (P : Form → Type 0) where
   Each [] = P Unknown
   Each (formRow c f ∷ rs) = (b ≡ c → P f) × Each rs
 
-  looked : (rs : List FormRow) → Each rs → P (lookup b rs)
-  unfolding lookup
+  looked : (rs : List FormRow) → Each rs → P (formIn b rs)
+  unfolding formIn
   looked [] e = e
   looked (formRow c f ∷ rs) e = go (eqb b c) refl (looked rs (e .1))
     where
-      go : (q : Bool) → eqb b c ≡ q → P (lookup b rs) → P (elim q [ true ↦ f | false ↦ lookup b rs ])
+      go : (q : Bool) → eqb b c ≡ q → P (formIn b rs) → P (elim q [ true ↦ f | false ↦ formIn b rs ])
       go true p r = e .0 (eqb-true b c p)
       go false p r = r
 
@@ -39,6 +39,6 @@ pub begins : (b : ℕ) → Begins b (formOf b)
 unfolding formOf
 begins b = go (ltb b portEnd) refl
   where
-    go : (q : Bool) → ltb b portEnd ≡ q → Begins b (elim q [ true ↦ fPort | false ↦ lookup b table ])
+    go : (q : Bool) → ltb b portEnd ≡ q → Begins b (elim q [ true ↦ fPort | false ↦ formIn b table ])
     go true p = ltb-true b portEnd p
     go false p = looked b (Begins b) table (search)

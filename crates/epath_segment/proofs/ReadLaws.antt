@@ -16,7 +16,7 @@ use Rattle.epath_segment.specs.declared.decode.Kind.{Kind}
 use Rattle.epath_segment.specs.declared.decode.Kind.the-variants.{Class as kClass, Instance as kInstance, Attribute as kAttribute, Element as kElement}
 use Rattle.epath_segment.specs.declared.decode.Form.{Form}
 use Rattle.epath_segment.specs.declared.decode.Form.the-variants.{Port as fPort, Symbol as fSymbol, Narrow, Wide, Widest, Unknown}
-use Rattle.epath_segment.specs.Reads.{Front, front, FormRow, formRow, table, formOf, lookup, made, readNarrow, readWide, readPart, readSymbol, readLink, readPortNumber, readPort, readAs, readSeg}
+use Rattle.epath_segment.specs.Reads.{Front, front, FormRow, formRow, table, formOf, formIn, made, readNarrow, readWide, readPart, readSymbol, readLink, readPortNumber, readPort, readAs, readSeg}
 
 -- ---- the first byte: each row of the table, and none
 
@@ -32,31 +32,31 @@ module _ (b : ℕ) where
   form-port h = simp (lt-ltb _ _ h, formOf)
 
   pub form-symbol : b ≡ symbolCode → fSymbol ≡ formOf b
-  unfolding formOf lookup
+  unfolding formOf formIn
   form-symbol h = rw h
 
   pub form-narrow : (k : Kind) → b ≡ codeOf k → Narrow k ≡ formOf b
-  unfolding formOf lookup
+  unfolding formOf formIn
   form-narrow = elim [ kClass ↦ λ h. rw h | kInstance ↦ λ h. rw h | kAttribute ↦ λ h. rw h | kElement ↦ λ h. rw h ]
 
   pub form-wide : (k : Kind) → b ≡ codeOf k + 1 → Wide k ≡ formOf b
-  unfolding formOf lookup
+  unfolding formOf formIn
   form-wide = elim [ kClass ↦ λ h. rw h | kInstance ↦ λ h. rw h | kAttribute ↦ λ h. rw h | kElement ↦ λ h. rw h ]
 
   pub form-widest : b ≡ elementCode + 2 → Widest ≡ formOf b
-  unfolding formOf lookup
+  unfolding formOf formIn
   form-widest h = rw h
 
-  passed : (c : ℕ) (f : Form) (rs : List FormRow) → (b ≡ c → ⊥) → lookup b (formRow c f ∷ rs) ≡ lookup b rs
-  unfolding lookup
-  passed c f rs h = simp (ne-eqb _ _ h, lookup)
+  passed : (c : ℕ) (f : Form) (rs : List FormRow) → (b ≡ c → ⊥) → formIn b (formRow c f ∷ rs) ≡ formIn b rs
+  unfolding formIn
+  passed c f rs h = simp (ne-eqb _ _ h, formIn)
 
-  no-port : portEnd ≤ b → formOf b ≡ lookup b table
+  no-port : portEnd ≤ b → formOf b ≡ formIn b table
   unfolding formOf
   no-port h = simp (le-ltb _ _ h, formOf)
 
-  no-row : Unknown ≡ lookup b []
-  unfolding lookup
+  no-row : Unknown ≡ formIn b []
+  unfolding formIn
   no-row = refl
 
   pub form-unknown : portEnd ≤ b → (b ≡ symbolCode → ⊥) → (b ≡ classCode → ⊥) → (b ≡ classCode + 1 → ⊥) → (b ≡ instanceCode → ⊥) → (b ≡ instanceCode + 1 → ⊥) → (b ≡ attributeCode → ⊥) → (b ≡ attributeCode + 1 → ⊥) → (b ≡ elementCode → ⊥) → (b ≡ elementCode + 1 → ⊥) → (b ≡ elementCode + 2 → ⊥) → Unknown ≡ formOf b

@@ -47,12 +47,12 @@ table =
     ∷ formRow (elementCode + 2) Widest
     ∷ []
 
-unfoldable pub lookup : ℕ → List FormRow → Form
-lookup b [] = Unknown
-lookup b (formRow c f ∷ rs) = elim (eqb b c) [ true ↦ f | false ↦ lookup b rs ]
+unfoldable pub formIn : ℕ → List FormRow → Form
+formIn b [] = Unknown
+formIn b (formRow c f ∷ rs) = elim (eqb b c) [ true ↦ f | false ↦ formIn b rs ]
 
 unfoldable pub formOf : ℕ → Form
-formOf b = elim (ltb b portEnd) [ true ↦ fPort | false ↦ lookup b table ]
+formOf b = elim (ltb b portEnd) [ true ↦ fPort | false ↦ formIn b table ]
 
 -- ---- each form, over the bytes t that begin with it: which rules in which order, and what it then is, with its size
 

@@ -28,5 +28,8 @@ openSize pool p o =
     andThen (parameterWord (o .«large_open») (o .«t_o_params»)) (λ _.
     done (openBase (o .«large_open») + n))))
 
+abbrev pub closeBase : ℕ
+closeBase = 12
+
 unfoldable pub closeSize : List ℕ → Path → Answer ℕ
-closeSize pool p = andThen (routeSize pool p) (λ n. done (12 + n))
+closeSize pool p = andThen (routeSize pool p) (λ n. done (closeBase + n))

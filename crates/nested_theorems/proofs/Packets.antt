@@ -7,7 +7,7 @@ use lib.ListN.{length}
 use Rattle.wire.specs.Parts.{part}
 use Rattle.wire.specs.Answers.{breaks, numberOf, judged}
 use Rattle.epath.specs.Paths.{walk, checkPath}
-use Rattle.epath_segment.specs.Reads.{formOf, lookup, readNarrow, readSeg}
+use Rattle.epath_segment.specs.Reads.{formOf, formIn, readNarrow, readSeg}
 use Rattle.connection.specs.Limits.{maxRecord}
 use Rattle.connection.specs.declared.UnconnectedSend.{UnconnectedSend}
 use Rattle.connection_words.specs.Requests.{messageBytes, sendBytes}
@@ -23,11 +23,11 @@ use Rattle.nested_theorems.proofs.Nesting.{opens-packet, opens-send}
 
 -- the two paths are paths
 route-to-router : Route (pathTo messageRouter)
-unfolding checkPath walk readSeg readNarrow formOf lookup judged breaks numberOf
+unfolding checkPath walk readSeg readNarrow formOf formIn judged breaks numberOf
 route-to-router = record { count = 2; is = refl; short = omega arith; even = refl }
 
 route-to-manager : Route (pathTo connectionManager)
-unfolding checkPath walk readSeg readNarrow formOf lookup judged breaks numberOf
+unfolding checkPath walk readSeg readNarrow formOf formIn judged breaks numberOf
 route-to-manager = record { count = 2; is = refl; short = omega arith; even = refl }
 
 -- ---- a packet around messages: its own row, then theirs

@@ -17,9 +17,9 @@ use Rattle.reply_header.specs.Statuses.{isOk}
 use Rattle.reply_header.specs.Headers.{readHeader}
 use Rattle.reply_header.specs.declared.MessageReply.{MessageReply}
 use Rattle.reply.specs.declared.OpenReplyRead.{OpenReplyRead}
-use Rattle.reply.specs.declared.OpenReplyRead.the-variants.{Success as OpenSuccess, Failure as OpenFailure, Refused as NoOpen}
+use Rattle.reply.specs.declared.OpenReplyRead.the-variants.{Success as OpenSuccess, Failure as OpenFailure, Refused as NoOpenReply}
 use Rattle.reply.specs.declared.CloseReplyRead.{CloseReplyRead}
-use Rattle.reply.specs.declared.CloseReplyRead.the-variants.{Success as CloseSuccess, Failure as CloseFailure, Refused as NoClose}
+use Rattle.reply.specs.declared.CloseReplyRead.the-variants.{Success as CloseSuccess, Failure as CloseFailure, Refused as NoCloseReply}
 use Rattle.reply.specs.declared.failure.FailRead.{FailRead}
 use Rattle.reply.specs.declared.failure.FailRead.the-variants.{Found, Refused as NoFail}
 
@@ -104,12 +104,12 @@ readCloseReply = readReply closeSuccessAt 8
 abbrev pub paperOpenReply : OpenReplyRead → Answer (Reply ForwardOpenSuccess)
 paperOpenReply (OpenSuccess m o start len) = done (succeeded m o start len)
 paperOpenReply (OpenFailure m f) = done (failed m f)
-paperOpenReply (NoOpen e) = refused (number e)
+paperOpenReply (NoOpenReply e) = refused (number e)
 
 abbrev pub paperCloseReply : CloseReplyRead → Answer (Reply ForwardCloseSuccess)
 paperCloseReply (CloseSuccess m c start len) = done (succeeded m c start len)
 paperCloseReply (CloseFailure m f) = done (failed m f)
-paperCloseReply (NoClose e) = refused (number e)
+paperCloseReply (NoCloseReply e) = refused (number e)
 
 abbrev pub paperFail : FailRead → Answer ForwardRequestFail
 paperFail (Found f) = done f

@@ -12,13 +12,13 @@ use Rattle.connection.specs.declared.RemainingPathSize.{RemainingPathSize}
 use Rattle.connection.specs.declared.RemainingPathSize.the-variants.{Absent as NoSize, Words}
 use Rattle.connection_words.specs.Requests.{triad}
 use Rattle.reply_header.specs.Headers.{headerFields}
-use Rattle.reply_header.specs.declared.ExtendedStatus.the-variants.{Absent as NoWord}
+use Rattle.reply_header.specs.declared.ExtendedStatus.the-variants.{Absent as NoExtended}
 use Rattle.reply_header.specs.declared.Status.{Status}
 
 -- ---- success: general status 0 and no extended word
 
 abbrev pub success : Status
-success = record { general = 0; extended = NoWord }
+success = record { general = 0; extended = NoExtended }
 
 -- two numbers: from originator to target, and back
 abbrev pub bothWays : ℕ → ℕ → List Field

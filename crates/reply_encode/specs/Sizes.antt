@@ -9,7 +9,7 @@ use Rattle.connection.specs.declared.ForwardRequestFail.{ForwardRequestFail}
 use Rattle.connection.specs.declared.RemainingPathSize.{RemainingPathSize}
 use Rattle.connection.specs.declared.RemainingPathSize.the-variants.{Absent as NoSize, Words}
 use Rattle.reply_header.specs.declared.ExtendedStatus.{ExtendedStatus}
-use Rattle.reply_header.specs.declared.ExtendedStatus.the-variants.{Absent as NoWord, Word}
+use Rattle.reply_header.specs.declared.ExtendedStatus.the-variants.{Absent as NoExtended, Word}
 use Rattle.reply_header.specs.declared.Status.{Status}
 
 -- what stands before the application data, header included
@@ -28,7 +28,7 @@ successSize base app = judged (appRules app) (done (base + length app))
 
 -- a failure has 12 bytes, 2 more with an extended word, 1 more with a remaining path size
 abbrev pub wordWidth : ExtendedStatus → ℕ
-wordWidth NoWord = 0
+wordWidth NoExtended = 0
 wordWidth (Word w) = 2
 
 abbrev pub remainingWidth : RemainingPathSize → ℕ
