@@ -116,11 +116,12 @@ use Rattle.c_paths.proofs.bark_write_path
 use Rattle.c_paths.proofs.bark_check_path
 use Rattle.c_paths.proofs.bark_read_path
 use Rattle.c_paths.proofs.Exact as CPaths
-use Rattle.c_requests.proofs.bark_write_message
-use Rattle.c_requests.proofs.bark_read_message
-use Rattle.c_requests.proofs.bark_write_unconnected_send
-use Rattle.c_requests.proofs.bark_read_unconnected_send
-use Rattle.c_requests.proofs.Exact as CRequests
+use Rattle.c_messages.proofs.bark_write_message
+use Rattle.c_messages.proofs.bark_read_message
+use Rattle.c_messages.proofs.Exact as CMessages
+use Rattle.c_sends.proofs.bark_write_unconnected_send
+use Rattle.c_sends.proofs.bark_read_unconnected_send
+use Rattle.c_sends.proofs.Exact as CSends
 use Rattle.c_forward_words.proofs.bark_encode_parameters
 use Rattle.c_forward_words.proofs.bark_decode_parameters
 use Rattle.c_forward_words.proofs.bark_encode_transport
@@ -274,9 +275,10 @@ pub record Claims : Type 2 where
   pub bark-write-path : Exact bark_write_path.ended (λ _. bark_write_path.clauses)
   pub bark-check-path : Exact bark_check_path.ended (λ _. bark_check_path.clauses)
   pub bark-read-path : Exact bark_read_path.ended (λ _. bark_read_path.clauses)
-  -- c_requests
+  -- c_messages
   pub bark-write-message : Exact bark_write_message.ended (λ _. bark_write_message.clauses)
   pub bark-read-message : Exact bark_read_message.ended (λ _. bark_read_message.clauses)
+  -- c_sends
   pub bark-write-unconnected-send : Exact bark_write_unconnected_send.ended (λ _. bark_write_unconnected_send.clauses)
   pub bark-read-unconnected-send : Exact bark_read_unconnected_send.ended (λ _. bark_read_unconnected_send.clauses)
   -- c_forward_words
@@ -400,10 +402,10 @@ claims =
       bark-write-path = CPaths.bark-write-path-exact;
       bark-check-path = CPaths.bark-check-path-exact;
       bark-read-path = CPaths.bark-read-path-exact;
-      bark-write-message = CRequests.bark-write-message-exact;
-      bark-read-message = CRequests.bark-read-message-exact;
-      bark-write-unconnected-send = CRequests.bark-write-unconnected-send-exact;
-      bark-read-unconnected-send = CRequests.bark-read-unconnected-send-exact;
+      bark-write-message = CMessages.bark-write-message-exact;
+      bark-read-message = CMessages.bark-read-message-exact;
+      bark-write-unconnected-send = CSends.bark-write-unconnected-send-exact;
+      bark-read-unconnected-send = CSends.bark-read-unconnected-send-exact;
       bark-encode-parameters = CForwardWords.bark-encode-parameters-exact;
       bark-decode-parameters = CForwardWords.bark-decode-parameters-exact;
       bark-encode-transport = CForwardWords.bark-encode-transport-exact;

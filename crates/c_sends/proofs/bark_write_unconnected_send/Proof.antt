@@ -1,10 +1,10 @@
--- `c_requests::bark_write_unconnected_send` meets its contract. Assumes nothing.
+-- `c_sends::bark_write_unconnected_send` meets its contract. Assumes nothing.
 --: use Rattle.c_answers.proofs.Laws.{told-laws}
 --: * = search (told-laws, needs) fits 5000
 use Rattle.c_answers.proofs.Laws.{told-laws}
 use borrow.Author.Needs.{needs}
-use Rattle.c_requests.proofs.bark_write_unconnected_send.Statement.{statement}
-use Rattle.c_requests.proofs.bark_write_unconnected_send.Tie as tie
+use Rattle.c_sends.proofs.bark_write_unconnected_send.Statement.{statement}
+use Rattle.c_sends.proofs.bark_write_unconnected_send.Tie as tie
 
 write-unconnected-send-over-requires : tie.Need-write-unconnected-send-over-requires
 write-unconnected-send-over-requires c κs = search needs

@@ -1,10 +1,10 @@
--- `c_requests::bark_write_message` meets its contract. Assumes nothing.
+-- `c_messages::bark_write_message` meets its contract. Assumes nothing.
 --: use Rattle.c_answers.proofs.Laws.{told-laws}
 --: * = search (told-laws, needs) fits 5000
 use Rattle.c_answers.proofs.Laws.{told-laws}
 use borrow.Author.Needs.{needs}
-use Rattle.c_requests.proofs.bark_write_message.Statement.{statement}
-use Rattle.c_requests.proofs.bark_write_message.Tie as tie
+use Rattle.c_messages.proofs.bark_write_message.Statement.{statement}
+use Rattle.c_messages.proofs.bark_write_message.Tie as tie
 
 write-message-over-requires : tie.Need-write-message-over-requires
 write-message-over-requires c κs = search needs
