@@ -5,7 +5,7 @@
 # sh tools/archives.sh, from anywhere. Needs rt and ar. rt writes an archive of the functions of one crate; here those of several become one.
 set -eu
 cd "$(dirname "$0")/.."
-parts='c_paths c_messages c_sends c_forwards c_forward_words c_replies c_forward_replies c_reply_writes c_bodies c_body_replies c_reply_walk c_nested'
+parts='c_paths c_messages c_sends c_forwards c_forward_words c_replies c_open_replies c_close_replies c_reply_writes c_bodies c_body_reads c_body_replies c_reply_walk c_nested'
 lib=target/staticlib
 log=$(mktemp)
 trap 'rm -f "$log"' EXIT
