@@ -14,7 +14,7 @@ use Rattle.wire.specs.declared.Wrote.{Wrote}
 use Rattle.wire.specs.declared.Wrote.the-variants.{Size, Refused as NotWritten}
 use Rattle.wire.specs.declared.Counted.{Counted}
 use Rattle.wire.specs.declared.Counted.the-variants.{Count, Refused as NotCounted}
-use Rattle.wire.proofs.Rules.{rules, then-stops, then-goes}
+use Rattle.wire.proofs.Rules.{rules}
 use Rattle.wire.proofs.Answers.{room-kept, room-was}
 use Rattle.wire.proofs.Stores.{Copying, copy-first, copy-more, copy-ends, run-whole, sets-overlay}
 use Rattle.c_answers.specs.Codes.{twoTo64, twoTo63, code, filled, numbers, runAnswer, runLeft, runOf, Told}
@@ -110,27 +110,40 @@ module _ (a : Answer (List ℕ)) (old : List ℕ) where
 
 pub ruleset read-laws = (read-refused, read-kept, read-answer, read-stored)
 
--- a reader of any answers, whose numbers f are told: it answered w, which says x
+-- a reader of any answers, whose numbers f are told: it answered w, which says x, and w is y
+module _ {A R : Type 0} (paper : R → Answer A) (f : A → List ℕ) (x : Answer A) (old : List ℕ) (w y : R) (is : paper w ≡ x) (h : w ≡ y) where
+  meant : runOf f (paper y) ≡ runOf f x
+  meant = ap (λ (z : R). runOf f (paper z)) (sym h) ∙ ap (runOf f) is
+
+  pub told-answer : (r : ℕ) → r ≡ code (runAnswer (runOf f (paper y)) old) → r ≡ code (runAnswer (runOf f x) old)
+  told-answer r e = e ∙ ap (λ (a : Answer (List ℕ)). code (runAnswer a old)) meant
+
+  pub told-left : (new : List ℕ) → new ≡ runLeft (runOf f (paper y)) old → new ≡ runLeft (runOf f x) old
+  told-left new e = e ∙ ap (λ (a : Answer (List ℕ)). runLeft a old) meant
+
+  -- another function made the numbers
+  module _ (src : List ℕ) (n : done src ≡ runOf f (paper y)) where
+    pub made-answer : (r : ℕ) → r ≡ code (withRoom (done (length src)) (length old)) → r ≡ code (runAnswer (runOf f x) old)
+    made-answer r e = e ∙ ap (λ (a : Answer (List ℕ)). code (runAnswer a old)) (n ∙ meant)
+
+    pub made-left : (new : List ℕ) → new ≡ written (withRoom (done (length src)) (length old)) src old → new ≡ runLeft (runOf f x) old
+    made-left new e = e ∙ ap (λ (a : Answer (List ℕ)). runLeft a old) (n ∙ meant)
+
+-- the same, each end by itself
 module _ {A R : Type 0} (paper : R → Answer A) (f : A → List ℕ) (x : Answer A) (old : List ℕ) (w : R) (is : paper w ≡ x) where
   module _ (k : ℕ) (h : paper w ≡ refused k) where
-    none : runOf f x ≡ refused k
-    none = sym (then-stops x (λ v. done (f v)) k (sym is ∙ h))
-
     pub run-refused : (r : ℕ) → r ≡ code (refused k) → r ≡ code (runAnswer (runOf f x) old)
-    run-refused r = read-refused (runOf f x) old k r none
+    run-refused = told-answer (λ a. a) f x old (paper w) (refused k) is h
 
     pub run-kept : old ≡ runLeft (runOf f x) old
-    run-kept = read-kept (runOf f x) old k none
+    run-kept = told-left (λ a. a) f x old (paper w) (refused k) is h old refl
 
   module _ (v : A) (src : List ℕ) (h : paper w ≡ done v) (n : src ≡ f v) where
-    some : runOf f x ≡ done src
-    some = sym (then-goes x (λ v. done (f v)) v (done src) (sym is ∙ h) (ap done n))
-
     pub run-answer : (r : ℕ) → r ≡ code (withRoom (done (length src)) (length old)) → r ≡ code (runAnswer (runOf f x) old)
-    run-answer r = read-answer (runOf f x) old src r some
+    run-answer = made-answer (λ a. a) f x old (paper w) (done v) is h src (ap done n)
 
     pub run-stored : (new : List ℕ) → new ≡ written (withRoom (done (length src)) (length old)) src old → new ≡ runLeft (runOf f x) old
-    run-stored new = read-stored (runOf f x) old src new some
+    run-stored = made-left (λ a. a) f x old (paper w) (done v) is h src (ap done n)
 
 -- answers that are told apart have numbers of their own
 pub told-apart : (x y : Answer ℕ) → Told x → Told y → code x ≡ code y → x ≡ y

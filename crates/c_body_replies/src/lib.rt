@@ -6,17 +6,15 @@ use c_answers::refusal_answer;
 use c_reply_numbers::reply_numbers;
 use reply_header::ReplyRead;
 ghost use mathlib.Core.Path.{_≡_};
-ghost use lib.ListN.{length};
-ghost use Rattle.wire.specs.Answers.{withRoom, written};
 ghost use Rattle.reply_header.specs.Headers.{paperReply};
 ghost use Rattle.body_replies.specs.Replies.{walkReply, bodyReply};
-ghost use Rattle.c_answers.specs.Codes.{code, filled, numbers};
-ghost use Rattle.c_body_replies.specs.Fields.{replyRun};
+ghost use Rattle.c_answers.specs.Codes.{code, runAnswer, runLeft};
+ghost use Rattle.c_reply_numbers.specs.Numbers.{replyRun};
 
 // What was read of a reply's header, as its six numbers.
 fn fill_reply(w: ReplyRead, fields: &mut [usize]) -> usize
-    ensures answer { λ r. ⌜ r ≡ code (withRoom (filled (replyRun (paperReply w))) (length (now (fields .entry)))) ⌝ }
-    ensures numbers { λ _. ⌜ now (fields .exit) ≡ written (withRoom (filled (replyRun (paperReply w))) (length (now (fields .entry)))) (numbers (replyRun (paperReply w))) (now (fields .entry)) ⌝ }
+    ensures answer { λ r. ⌜ r ≡ code (runAnswer (replyRun (paperReply w)) (now (fields .entry))) ⌝ }
+    ensures numbers { λ _. ⌜ now (fields .exit) ≡ runLeft (replyRun (paperReply w)) (now (fields .entry)) ⌝ }
 {
     match w {
         ReplyRead::Refused(e) => refusal_answer(e),
@@ -27,8 +25,8 @@ fn fill_reply(w: ReplyRead, fields: &mut [usize]) -> usize
 // The reply in an item of a body.
 #[no_mangle]
 pub extern "C" fn bark_reply_item(s: &[u8], index: usize, fields: &mut [usize]) -> usize
-    ensures answer { λ r. ⌜ r ≡ code (withRoom (filled (replyRun (bodyReply (now (s .entry)) index))) (length (now (fields .entry)))) ⌝ }
-    ensures numbers { λ _. ⌜ now (fields .exit) ≡ written (withRoom (filled (replyRun (bodyReply (now (s .entry)) index))) (length (now (fields .entry)))) (numbers (replyRun (bodyReply (now (s .entry)) index))) (now (fields .entry)) ⌝ }
+    ensures answer { λ r. ⌜ r ≡ code (runAnswer (replyRun (bodyReply (now (s .entry)) index)) (now (fields .entry))) ⌝ }
+    ensures numbers { λ _. ⌜ now (fields .exit) ≡ runLeft (replyRun (bodyReply (now (s .entry)) index)) (now (fields .entry)) ⌝ }
 {
     fill_reply(reply_item(s, index), fields)
 }
@@ -41,8 +39,8 @@ pub extern "C" fn bark_walk_reply(
     index: usize,
     fields: &mut [usize],
 ) -> usize
-    ensures answer { λ r. ⌜ r ≡ code (withRoom (filled (replyRun (walkReply (now (s .entry)) items index))) (length (now (fields .entry)))) ⌝ }
-    ensures numbers { λ _. ⌜ now (fields .exit) ≡ written (withRoom (filled (replyRun (walkReply (now (s .entry)) items index))) (length (now (fields .entry)))) (numbers (replyRun (walkReply (now (s .entry)) items index))) (now (fields .entry)) ⌝ }
+    ensures answer { λ r. ⌜ r ≡ code (runAnswer (replyRun (walkReply (now (s .entry)) items index)) (now (fields .entry))) ⌝ }
+    ensures numbers { λ _. ⌜ now (fields .exit) ≡ runLeft (replyRun (walkReply (now (s .entry)) items index)) (now (fields .entry)) ⌝ }
 {
     fill_reply(walk_reply(s, items, index), fields)
 }

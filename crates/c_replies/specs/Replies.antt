@@ -1,17 +1,14 @@
--- What the functions for C read of a reply, as runs of numbers at the places of include/barkcushion.h. Assumes nothing: these are definitions.
+-- A status of numbers, and what the functions for C read of an envelope as a run of numbers at the places of include/barkcushion.h.
+-- Assumes nothing: these are definitions.
 use Prim.Native.Nat.{ℕ}
 use mathlib.Core.List.{List, [], _∷_}
 use mathlib.Core.Bool.{Bool, true, false}
-use Rattle.wire.specs.Answers.{Answer, done, andThen}
-use Rattle.reply_header.specs.Headers.{readHeader}
+use Rattle.wire.specs.Answers.{Answer}
 use Rattle.reply_header.specs.declared.ExtendedStatus.{ExtendedStatus}
 use Rattle.reply_header.specs.declared.ExtendedStatus.the-variants.{Absent, Word}
 use Rattle.reply_header.specs.declared.Status.{Status}
-use Rattle.c_reply_numbers.specs.Numbers.{replyNumbers}
 use Rattle.envelope.specs.Envelopes.{Held, unconnected, connected, readEnvelope}
-
-abbrev pub headerRun : List ℕ → Answer (List ℕ)
-headerRun s = andThen (readHeader s) (λ m. done (replyNumbers m))
+use Rattle.c_answers.specs.Codes.{runOf}
 
 -- a status of numbers: the word counts only where there is one
 abbrev pub extendedOf : Bool → ℕ → ExtendedStatus
@@ -27,4 +24,4 @@ heldNumbers (unconnected start len) = 0 ∷ 0 ∷ start ∷ len ∷ []
 heldNumbers (connected count start len) = 1 ∷ count ∷ start ∷ len ∷ []
 
 abbrev pub envelopeRun : List ℕ → Answer (List ℕ)
-envelopeRun s = andThen (readEnvelope s) (λ h. done (heldNumbers h))
+envelopeRun s = runOf heldNumbers (readEnvelope s)

@@ -10,17 +10,17 @@ use reply_header::Status;
 use reply_header::is_routing_error;
 use reply_header::read_reply_header;
 ghost use mathlib.Core.Path.{_≡_};
-ghost use lib.ListN.{length};
-ghost use Rattle.wire.specs.Answers.{withRoom, written};
 ghost use Rattle.reply_header.specs.Statuses.{isRoutingError};
-ghost use Rattle.c_answers.specs.Codes.{code, filled, numbers};
-ghost use Rattle.c_replies.specs.Replies.{headerRun, statusOf, envelopeRun};
+ghost use Rattle.reply_header.specs.Headers.{readHeader};
+ghost use Rattle.c_answers.specs.Codes.{code, runAnswer, runLeft};
+ghost use Rattle.c_reply_numbers.specs.Numbers.{replyRun};
+ghost use Rattle.c_replies.specs.Replies.{statusOf, envelopeRun};
 
 // Reads a reply's header.
 #[no_mangle]
 pub extern "C" fn bark_read_reply(s: &[u8], fields: &mut [usize]) -> usize
-    ensures answer { λ r. ⌜ r ≡ code (withRoom (filled (headerRun (now (s .entry)))) (length (now (fields .entry)))) ⌝ }
-    ensures numbers { λ _. ⌜ now (fields .exit) ≡ written (withRoom (filled (headerRun (now (s .entry)))) (length (now (fields .entry)))) (numbers (headerRun (now (s .entry)))) (now (fields .entry)) ⌝ }
+    ensures answer { λ r. ⌜ r ≡ code (runAnswer (replyRun (readHeader (now (s .entry)))) (now (fields .entry))) ⌝ }
+    ensures numbers { λ _. ⌜ now (fields .exit) ≡ runLeft (replyRun (readHeader (now (s .entry)))) (now (fields .entry)) ⌝ }
 {
     match read_reply_header(s) {
         ReplyRead::Refused(e) => refusal_answer(e),
@@ -52,22 +52,18 @@ pub extern "C" fn bark_is_routing_error(general: u8, has_word: bool, word: u16) 
     is_routing_error(status_of(general, has_word, word))
 }
 
-// A 16-bit count as one of the numbers.
-fn wide(x: u16) -> usize
-    ensures { λ r. ⌜ r ≡ x ⌝ }
-{
-    x as usize
-}
-
 // Reads the two-item envelope.
 #[no_mangle]
 pub extern "C" fn bark_read_envelope(s: &[u8], fields: &mut [usize]) -> usize
-    ensures answer { λ r. ⌜ r ≡ code (withRoom (filled (envelopeRun (now (s .entry)))) (length (now (fields .entry)))) ⌝ }
-    ensures numbers { λ _. ⌜ now (fields .exit) ≡ written (withRoom (filled (envelopeRun (now (s .entry)))) (length (now (fields .entry)))) (numbers (envelopeRun (now (s .entry)))) (now (fields .entry)) ⌝ }
+    ensures answer { λ r. ⌜ r ≡ code (runAnswer (envelopeRun (now (s .entry))) (now (fields .entry))) ⌝ }
+    ensures numbers { λ _. ⌜ now (fields .exit) ≡ runLeft (envelopeRun (now (s .entry))) (now (fields .entry)) ⌝ }
 {
     match read_envelope(s) {
         EnvelopeRead::Refused(e) => refusal_answer(e),
         EnvelopeRead::Unconnected(start, len) => fill(fields, &[0, 0, start, len]),
-        EnvelopeRead::Connected(count, start, len) => fill(fields, &[1, wide(count), start, len]),
+        EnvelopeRead::Connected(count, start, len) => {
+            let wide = count as usize;
+            fill(fields, &[1, wide, start, len])
+        }
     }
 }

@@ -1,9 +1,11 @@
 -- A reply's header as a run of numbers, at the places of include/barkcushion.h. Assumes nothing: these are definitions.
 use Prim.Native.Nat.{ℕ}
 use mathlib.Core.List.{List, [], _∷_}
+use Rattle.wire.specs.Answers.{Answer}
 use Rattle.reply_header.specs.declared.ExtendedStatus.{ExtendedStatus}
 use Rattle.reply_header.specs.declared.ExtendedStatus.the-variants.{Absent, Word}
 use Rattle.reply_header.specs.declared.MessageReply.{MessageReply}
+use Rattle.c_answers.specs.Codes.{runOf}
 
 -- words of extended status
 abbrev pub extendedWords : ExtendedStatus → ℕ
@@ -25,3 +27,7 @@ replyNumbers m =
     ∷ m .«data_start»
     ∷ m .«data_len»
     ∷ []
+
+-- what was read of a header, as those numbers
+abbrev pub replyRun : Answer MessageReply → Answer (List ℕ)
+replyRun a = runOf replyNumbers a

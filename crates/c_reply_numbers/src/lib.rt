@@ -24,13 +24,6 @@ fn word_of(extended: ExtendedStatus) -> usize
     }
 }
 
-// A byte as one of the numbers.
-fn wide(x: u8) -> usize
-    ensures { λ r. ⌜ r ≡ x ⌝ }
-{
-    x as usize
-}
-
 // Service, general status, words of extended status and that word, start and length of the data.
 pub fn reply_numbers(m: MessageReply) -> [usize; 6]
     ensures { λ r. ⌜ r ≡ replyNumbers m ⌝ }
@@ -38,8 +31,8 @@ pub fn reply_numbers(m: MessageReply) -> [usize; 6]
     let status = m.status;
     let extended = status.extended;
     [
-        wide(m.reply_service),
-        wide(status.general),
+        m.reply_service as usize,
+        status.general as usize,
         words_of(extended),
         word_of(extended),
         m.data_start,

@@ -122,11 +122,12 @@ use Rattle.c_paths.proofs.Exact as CPaths
 use Rattle.c_path_reads.proofs.bark_check_path
 use Rattle.c_path_reads.proofs.bark_read_path
 use Rattle.c_path_reads.proofs.Exact as CPathReads
-use Rattle.c_requests.proofs.bark_write_message
-use Rattle.c_requests.proofs.bark_read_message
-use Rattle.c_requests.proofs.bark_write_unconnected_send
-use Rattle.c_requests.proofs.bark_read_unconnected_send
-use Rattle.c_requests.proofs.Exact as CRequests
+use Rattle.c_messages.proofs.bark_write_message
+use Rattle.c_messages.proofs.bark_read_message
+use Rattle.c_messages.proofs.Exact as CMessages
+use Rattle.c_sends.proofs.bark_write_unconnected_send
+use Rattle.c_sends.proofs.bark_read_unconnected_send
+use Rattle.c_sends.proofs.Exact as CSends
 use Rattle.c_forward_words.proofs.bark_encode_parameters
 use Rattle.c_forward_words.proofs.bark_decode_parameters
 use Rattle.c_forward_words.proofs.Exact as CForwardWords
@@ -148,19 +149,23 @@ use Rattle.c_replies.proofs.status_of
 use Rattle.c_replies.proofs.bark_is_routing_error
 use Rattle.c_replies.proofs.bark_read_envelope
 use Rattle.c_replies.proofs.Exact as CReplies
-use Rattle.c_forward_replies.proofs.bark_read_forward_open_reply
-use Rattle.c_forward_replies.proofs.bark_read_forward_close_reply
-use Rattle.c_forward_replies.proofs.Exact as CForwardReplies
+use Rattle.c_failure_numbers.proofs.failure_numbers
+use Rattle.c_failure_numbers.proofs.Exact as CFailureNumbers
+use Rattle.c_open_replies.proofs.bark_read_forward_open_reply
+use Rattle.c_open_replies.proofs.Exact as COpenReplies
+use Rattle.c_close_replies.proofs.bark_read_forward_close_reply
+use Rattle.c_close_replies.proofs.Exact as CCloseReplies
 use Rattle.c_reply_writes.proofs.bark_write_forward_open_success
 use Rattle.c_reply_writes.proofs.bark_write_forward_close_success
 use Rattle.c_reply_writes.proofs.bark_write_forward_failure
 use Rattle.c_reply_writes.proofs.Exact as CReplyWrites
 use Rattle.c_bodies.proofs.bark_write_body
-use Rattle.c_bodies.proofs.bark_read_body
-use Rattle.c_bodies.proofs.bark_body_item
-use Rattle.c_bodies.proofs.bark_walk_item
 use Rattle.c_bodies.proofs.bark_join_bodies
 use Rattle.c_bodies.proofs.Exact as CBodies
+use Rattle.c_body_reads.proofs.bark_read_body
+use Rattle.c_body_reads.proofs.bark_body_item
+use Rattle.c_body_reads.proofs.bark_walk_item
+use Rattle.c_body_reads.proofs.Exact as CBodyReads
 use Rattle.c_body_replies.proofs.bark_reply_item
 use Rattle.c_body_replies.proofs.bark_walk_reply
 use Rattle.c_body_replies.proofs.Exact as CBodyReplies
@@ -289,9 +294,10 @@ pub record Claims : Type 2 where
   -- c_path_reads
   pub bark-check-path : Exact bark_check_path.ended (λ _. bark_check_path.clauses)
   pub bark-read-path : Exact bark_read_path.ended (λ _. bark_read_path.clauses)
-  -- c_requests
+  -- c_messages
   pub bark-write-message : Exact bark_write_message.ended (λ _. bark_write_message.clauses)
   pub bark-read-message : Exact bark_read_message.ended (λ _. bark_read_message.clauses)
+  -- c_sends
   pub bark-write-unconnected-send : Exact bark_write_unconnected_send.ended (λ _. bark_write_unconnected_send.clauses)
   pub bark-read-unconnected-send : Exact bark_read_unconnected_send.ended (λ _. bark_read_unconnected_send.clauses)
   -- c_forward_words
@@ -315,8 +321,11 @@ pub record Claims : Type 2 where
   pub status-of : Exact status_of.ended (λ _. status_of.clauses)
   pub bark-is-routing-error : Exact bark_is_routing_error.ended (λ _. bark_is_routing_error.clauses)
   pub bark-read-envelope : Exact bark_read_envelope.ended (λ _. bark_read_envelope.clauses)
-  -- c_forward_replies
+  -- c_failure_numbers
+  pub failure-numbers : Exact failure_numbers.ended (λ _. failure_numbers.clauses)
+  -- c_open_replies
   pub bark-read-forward-open-reply : Exact bark_read_forward_open_reply.ended (λ _. bark_read_forward_open_reply.clauses)
+  -- c_close_replies
   pub bark-read-forward-close-reply : Exact bark_read_forward_close_reply.ended (λ _. bark_read_forward_close_reply.clauses)
   -- c_reply_writes
   pub bark-write-forward-open-success : Exact bark_write_forward_open_success.ended (λ _. bark_write_forward_open_success.clauses)
@@ -324,10 +333,11 @@ pub record Claims : Type 2 where
   pub bark-write-forward-failure : Exact bark_write_forward_failure.ended (λ _. bark_write_forward_failure.clauses)
   -- c_bodies
   pub bark-write-body : Exact bark_write_body.ended (λ _. bark_write_body.clauses)
+  pub bark-join-bodies : Exact bark_join_bodies.ended (λ _. bark_join_bodies.clauses)
+  -- c_body_reads
   pub bark-read-body : Exact bark_read_body.ended (λ _. bark_read_body.clauses)
   pub bark-body-item : Exact bark_body_item.ended (λ _. bark_body_item.clauses)
   pub bark-walk-item : Exact bark_walk_item.ended (λ _. bark_walk_item.clauses)
-  pub bark-join-bodies : Exact bark_join_bodies.ended (λ _. bark_join_bodies.clauses)
   -- c_body_replies
   pub bark-reply-item : Exact bark_reply_item.ended (λ _. bark_reply_item.clauses)
   pub bark-walk-reply : Exact bark_walk_reply.ended (λ _. bark_walk_reply.clauses)
@@ -420,10 +430,10 @@ claims =
       bark-write-path = CPaths.bark-write-path-exact;
       bark-check-path = CPathReads.bark-check-path-exact;
       bark-read-path = CPathReads.bark-read-path-exact;
-      bark-write-message = CRequests.bark-write-message-exact;
-      bark-read-message = CRequests.bark-read-message-exact;
-      bark-write-unconnected-send = CRequests.bark-write-unconnected-send-exact;
-      bark-read-unconnected-send = CRequests.bark-read-unconnected-send-exact;
+      bark-write-message = CMessages.bark-write-message-exact;
+      bark-read-message = CMessages.bark-read-message-exact;
+      bark-write-unconnected-send = CSends.bark-write-unconnected-send-exact;
+      bark-read-unconnected-send = CSends.bark-read-unconnected-send-exact;
       bark-encode-parameters = CForwardWords.bark-encode-parameters-exact;
       bark-decode-parameters = CForwardWords.bark-decode-parameters-exact;
       bark-encode-transport = CTransportWords.bark-encode-transport-exact;
@@ -438,15 +448,16 @@ claims =
       status-of = CReplies.status-of-exact;
       bark-is-routing-error = CReplies.bark-is-routing-error-exact;
       bark-read-envelope = CReplies.bark-read-envelope-exact;
-      bark-read-forward-open-reply = CForwardReplies.bark-read-forward-open-reply-exact;
-      bark-read-forward-close-reply = CForwardReplies.bark-read-forward-close-reply-exact;
+      failure-numbers = CFailureNumbers.failure-numbers-exact;
+      bark-read-forward-open-reply = COpenReplies.bark-read-forward-open-reply-exact;
+      bark-read-forward-close-reply = CCloseReplies.bark-read-forward-close-reply-exact;
       bark-write-forward-open-success = CReplyWrites.bark-write-forward-open-success-exact;
       bark-write-forward-close-success = CReplyWrites.bark-write-forward-close-success-exact;
       bark-write-forward-failure = CReplyWrites.bark-write-forward-failure-exact;
       bark-write-body = CBodies.bark-write-body-exact;
-      bark-read-body = CBodies.bark-read-body-exact;
-      bark-body-item = CBodies.bark-body-item-exact;
-      bark-walk-item = CBodies.bark-walk-item-exact;
+      bark-read-body = CBodyReads.bark-read-body-exact;
+      bark-body-item = CBodyReads.bark-body-item-exact;
+      bark-walk-item = CBodyReads.bark-walk-item-exact;
       bark-join-bodies = CBodies.bark-join-bodies-exact;
       bark-reply-item = CBodyReplies.bark-reply-item-exact;
       bark-walk-reply = CBodyReplies.bark-walk-reply-exact;

@@ -1,7 +1,11 @@
 -- `c_replies::bark_read_envelope` meets its contract. Assumes nothing.
---: use Rattle.c_replies.proofs.ReplyLaws.{envelope-laws}
---: * = search (envelope-laws, needs) fits 5000
-use Rattle.c_replies.proofs.ReplyLaws.{envelope-laws}
+--: use Rattle.envelope.specs.Envelopes.{paperEnvelope}
+--: use Rattle.c_answers.proofs.Laws.{told-answer, told-left}
+--: use Rattle.c_replies.specs.Replies.{heldNumbers}
+--: * = search (told-answer paperEnvelope heldNumbers, told-left paperEnvelope heldNumbers, needs) fits 5000
+use Rattle.envelope.specs.Envelopes.{paperEnvelope}
+use Rattle.c_answers.proofs.Laws.{told-answer, told-left}
+use Rattle.c_replies.specs.Replies.{heldNumbers}
 use borrow.Author.Needs.{needs}
 use Rattle.c_replies.proofs.bark_read_envelope.Statement.{statement}
 use Rattle.c_replies.proofs.bark_read_envelope.Tie as tie
@@ -27,8 +31,8 @@ fill-requires c κs = search needs
 enum-known-count : tie.Need-enum-known-count
 enum-known-count c = search needs
 
-wide-requires : tie.Need-wide-requires
-wide-requires c κs = search needs
+cast-wide : tie.Need-cast-wide
+cast-wide c = search needs
 
 slice-aggregate-fill-2 : tie.Need-slice-aggregate-fill-2
 slice-aggregate-fill-2 c = search needs
@@ -37,19 +41,19 @@ fill-requires-2 : tie.Need-fill-requires-2
 fill-requires-2 c κs = search needs
 
 returns : tie.Need-returns
-returns c = search (envelope-laws, needs) fits 5000
+returns c = search (told-answer paperEnvelope heldNumbers, told-left paperEnvelope heldNumbers, needs) fits 5000
 
 same-length : tie.Need-same-length
 same-length c = search needs
 
 returns-2 : tie.Need-returns-2
-returns-2 c = search (envelope-laws, needs) fits 5000
+returns-2 c = search (told-answer paperEnvelope heldNumbers, told-left paperEnvelope heldNumbers, needs) fits 5000
 
 same-length-2 : tie.Need-same-length-2
 same-length-2 c = search needs
 
 returns-3 : tie.Need-returns-3
-returns-3 c = search (envelope-laws, needs) fits 5000
+returns-3 c = search (told-answer paperEnvelope heldNumbers, told-left paperEnvelope heldNumbers, needs) fits 5000
 
 pub bark-read-envelope-spec : {M : Type 1} → statement M
 bark-read-envelope-spec =
@@ -62,7 +66,7 @@ bark-read-envelope-spec =
     slice-aggregate-fill
     fill-requires
     enum-known-count
-    wide-requires
+    cast-wide
     slice-aggregate-fill-2
     fill-requires-2
     returns

@@ -1,2 +1,0 @@
-pub mod RequestLaws
-pub mod Exact
