@@ -142,7 +142,7 @@ static void give_back(struct lent l)
 struct call {
     const void *in[2];
     size_t len[2]; /* elements */
-    uint64_t n[BARK_OPEN_WRITTEN + 1];
+    size_t n[BARK_OPEN_WRITTEN + 1];
     void *out;
     size_t room; /* elements */
 };
@@ -352,16 +352,25 @@ static int64_t ask_read_path(struct part s, uint32_t *segments)
     return ask(F_read_path, c, want, segments);
 }
 
+/* The readers that take bytes alone and fill numbers */
+#define READER(name)                                                                                                                          \
+    static int64_t ask_##name(struct part s, size_t *f)                                                                                       \
+    {                                                                                                                                         \
+        struct call c = {.in = {s.at}, .len = {s.n}};                                                                                         \
+        return ask(F_##name, c, law_##name(s.at, s.n, f), f);                                                                                 \
+    }
+READER(read_message)
+READER(read_unconnected_send)
+READER(read_forward_close)
+READER(read_reply)
+READER(read_envelope)
+READER(read_replies)
+#undef READER
+
 static int64_t ask_write_message(uint8_t service, struct part path, struct part data, uint8_t *out)
 {
     struct call c = {.in = {path.at, data.at}, .len = {path.n, data.n}, .n = {service}};
     return ask(F_write_message, c, law_write_message(service, path.at, path.n, data.at, data.n, out), out);
-}
-
-static int64_t ask_read_message(struct part s, size_t *f)
-{
-    struct call c = {.in = {s.at}, .len = {s.n}};
-    return ask(F_read_message, c, law_read_message(s.at, s.n, f), f);
 }
 
 static int64_t ask_write_send(uint8_t priority, uint8_t ticks, struct part message, struct part path, uint8_t *out)
@@ -369,12 +378,6 @@ static int64_t ask_write_send(uint8_t priority, uint8_t ticks, struct part messa
     struct call c = {.in = {message.at, path.at}, .len = {message.n, path.n}, .n = {priority, ticks}};
     int64_t want = law_write_unconnected_send(priority, ticks, message.at, message.n, path.at, path.n, out);
     return ask(F_write_unconnected_send, c, want, out);
-}
-
-static int64_t ask_read_send(struct part s, size_t *f)
-{
-    struct call c = {.in = {s.at}, .len = {s.n}};
-    return ask(F_read_unconnected_send, c, law_read_unconnected_send(s.at, s.n, f), f);
 }
 
 static int64_t ask_encode_parameters(bool large, const size_t *f)
@@ -402,7 +405,7 @@ static int64_t ask_decode_transport(uint8_t byte, size_t *f)
     return ask(F_decode_transport, c, law_decode_transport(byte, f), f);
 }
 
-static int64_t ask_write_open(enum function f, bool large, const uint64_t *fields, struct part path, uint8_t *out)
+static int64_t ask_write_open(enum function f, bool large, const size_t *fields, struct part path, uint8_t *out)
 {
     struct call c = {.in = {path.at}, .len = {path.n}};
     memcpy(c.n, fields, BARK_OPEN_WRITTEN * sizeof *fields);
@@ -420,18 +423,6 @@ static int64_t ask_write_close(const size_t *f, struct part path, uint8_t *out)
 {
     struct call c = {.in = {path.at}, .len = {path.n}, .n = {f[0], f[1], f[2], f[3], f[4]}};
     return ask(F_write_forward_close, c, law_write_forward_close(f[0], f[1], f[2], f[3], f[4], path.at, path.n, out), out);
-}
-
-static int64_t ask_read_close(struct part s, size_t *f)
-{
-    struct call c = {.in = {s.at}, .len = {s.n}};
-    return ask(F_read_forward_close, c, law_read_forward_close(s.at, s.n, f), f);
-}
-
-static int64_t ask_read_reply(struct part s, size_t *f)
-{
-    struct call c = {.in = {s.at}, .len = {s.n}};
-    return ask(F_read_reply, c, law_read_reply(s.at, s.n, f), f);
 }
 
 static int64_t ask_read_forward_reply(bool open, bool routing, struct part s, size_t *f)
@@ -464,12 +455,6 @@ static int64_t ask_write_failure(const size_t *f, uint8_t *out)
                            f[BARK_FORWARD_VENDOR], f[BARK_FORWARD_ORIGINATOR], f[BARK_FAILURE_HAS_REMAINING], f[BARK_FAILURE_REMAINING]}};
     int64_t want = law_write_forward_failure(c.n[0], c.n[1], c.n[2], c.n[3], c.n[4], c.n[5], c.n[6], c.n[7], c.n[8], out);
     return ask(F_write_forward_failure, c, want, out);
-}
-
-static int64_t ask_read_envelope(struct part s, size_t *f)
-{
-    struct call c = {.in = {s.at}, .len = {s.n}};
-    return ask(F_read_envelope, c, law_read_envelope(s.at, s.n, f), f);
 }
 
 static int64_t ask_write_body(struct part items, const size_t *lengths, size_t count, uint8_t *out)
@@ -508,12 +493,6 @@ static int64_t ask_walk_reply(struct part s, size_t items, size_t index, size_t 
     struct call c = {.in = {s.at}, .len = {s.n}, .n = {items, index}};
     size_t item[BARK_ITEM];
     return ask(F_walk_reply, c, law_reply_in(s.at, law_walk_item(s.at, s.n, items, index, item), item, f), f);
-}
-
-static int64_t ask_read_replies(struct part s, size_t *rows)
-{
-    struct call c = {.in = {s.at}, .len = {s.n}};
-    return ask(F_read_replies, c, law_read_replies(s.at, s.n, rows), rows);
 }
 
 static int64_t ask_join(struct part a, struct part b, uint8_t *out)
@@ -952,7 +931,7 @@ static void test_write_send(void)
     size = ask_write_send(priority, ticks, message, path, made);
     if (size < 0)
         return;
-    read = ask_read_send(part(made, size), f);
+    read = ask_read_unconnected_send(part(made, size), f);
     need(priority > 15 ? read == -BARK_FORM
                        : read == BARK_SEND && f[BARK_SEND_PRIORITY_TICKS] == priority && f[BARK_SEND_TIMEOUT_TICKS] == ticks &&
                              same_part(message, made + f[BARK_SEND_MESSAGE_START], f[BARK_SEND_MESSAGE_LENGTH]) &&
@@ -964,7 +943,7 @@ static void test_read_send(void)
 {
     size_t f[BARK_SEND];
     struct part s = subject(SEND, false, 0, true);
-    if (ask_read_send(s, f) >= 0)
+    if (ask_read_unconnected_send(s, f) >= 0)
         need(same_part(s, made,
                        ask_write_send(f[BARK_SEND_PRIORITY_TICKS], f[BARK_SEND_TIMEOUT_TICKS],
                                       part(s.at + f[BARK_SEND_MESSAGE_START], f[BARK_SEND_MESSAGE_LENGTH]),
@@ -1021,9 +1000,9 @@ static void test_decode_transport(void)
 }
 
 /* A Forward Open that was written reads back as its fields and its path. */
-static void open_reads_back(enum function function, bool large, const uint64_t *fields, struct part path)
+static void open_reads_back(enum function function, bool large, const size_t *fields, struct part path)
 {
-    size_t f[BARK_OPEN], k;
+    size_t f[BARK_OPEN];
     int64_t read, size = ask_write_open(function, large, fields, path, made);
     if (size < 0)
         return;
@@ -1032,17 +1011,16 @@ static void open_reads_back(enum function function, bool large, const uint64_t *
         need(read == -BARK_FORM, "a reserved bit was read");
         return;
     }
-    need(read == BARK_OPEN && same_part(path, made + f[BARK_OPEN_PATH_START], f[BARK_OPEN_PATH_LENGTH]), "a Forward Open reads back as another");
-    for (k = 0; k < BARK_OPEN_WRITTEN; k++)
-        need(f[k] == fields[k], "a field of a Forward Open reads back as another");
+    need(read == BARK_OPEN && same(f, fields, BARK_OPEN_WRITTEN * sizeof *f) &&
+             same_part(path, made + f[BARK_OPEN_PATH_START], f[BARK_OPEN_PATH_LENGTH]),
+         "a Forward Open reads back as another");
 }
 
 static void test_write_open(enum function function)
 {
-    uint64_t fields[BARK_OPEN_WRITTEN];
+    size_t k, fields[BARK_OPEN_WRITTEN];
     uint8_t b = take();
     bool large = b & 1;
-    size_t k;
     for (k = 0; k < BARK_OPEN_WRITTEN; k++) {
         size_t width = open_width(large, k);
         fields[k] = width == 1 ? take() : width == 2 ? take16() : take32();
@@ -1062,30 +1040,23 @@ static void test_write_open(enum function function)
 
 static void test_read_open(void)
 {
-    size_t f[BARK_OPEN], k;
-    uint64_t fields[BARK_OPEN_WRITTEN];
+    size_t f[BARK_OPEN];
     bool large = take() & 1;
     struct part s = subject(OPEN, large, 0, true);
-    if (ask_read_open(large, s, f) < 0)
-        return;
-    for (k = 0; k < BARK_OPEN_WRITTEN; k++)
-        fields[k] = f[k];
-    need(same_part(s, made,
-                   ask_write_open(F_write_forward_open, large, fields, part(s.at + f[BARK_OPEN_PATH_START], f[BARK_OPEN_PATH_LENGTH]), made)),
-         "what was read is written as another Forward Open");
+    if (ask_read_open(large, s, f) >= 0)
+        need(same_part(s, made,
+                       ask_write_open(F_write_forward_open, large, f, part(s.at + f[BARK_OPEN_PATH_START], f[BARK_OPEN_PATH_LENGTH]), made)),
+             "what was read is written as another Forward Open");
 }
 
 static void test_default_open(void)
 {
-    size_t f[BARK_OPEN_WRITTEN], k;
-    uint64_t fields[BARK_OPEN_WRITTEN];
+    size_t f[BARK_OPEN_WRITTEN];
     bool large = take() & 1;
     uint16_t serial = take16();
     struct call c = {.n = {large, serial}};
     ask(F_default_forward_open, c, law_default_forward_open(large, serial, f), f);
-    for (k = 0; k < BARK_OPEN_WRITTEN; k++)
-        fields[k] = f[k];
-    open_reads_back(F_write_open, large, fields, part("\x01\x00\x20\x02\x24\x01", 6));
+    open_reads_back(F_write_open, large, f, part("\x01\x00\x20\x02\x24\x01", 6));
 }
 
 static void test_write_close(void)
@@ -1103,7 +1074,7 @@ static void test_write_close(void)
     size = ask_write_close(fields, path, made);
     if (size < 0)
         return;
-    read = ask_read_close(part(made, size), f);
+    read = ask_read_forward_close(part(made, size), f);
     need(fields[0] > 15 ? read == -BARK_FORM
                         : read == BARK_CLOSE && same(f, fields, sizeof fields) &&
                               same_part(path, made + f[BARK_CLOSE_PATH_START], f[BARK_CLOSE_PATH_LENGTH]),
@@ -1114,7 +1085,7 @@ static void test_read_close(void)
 {
     size_t f[BARK_CLOSE];
     struct part s = subject(CLOSE, false, 0, true);
-    if (ask_read_close(s, f) >= 0)
+    if (ask_read_forward_close(s, f) >= 0)
         need(same_part(s, made, ask_write_close(f, part(s.at + f[BARK_CLOSE_PATH_START], f[BARK_CLOSE_PATH_LENGTH]), made)),
              "what was read is written as another Forward Close");
 }

@@ -335,7 +335,7 @@ static size_t open_width(bool large, size_t field)
 }
 
 /* The fields are numbers, as in enum bark_open. */
-static int64_t law_write_forward_open(bool large, const uint64_t *fields, const uint8_t *path, size_t path_len, uint8_t *out)
+static int64_t law_write_forward_open(bool large, const size_t *fields, const uint8_t *path, size_t path_len, uint8_t *out)
 {
     size_t k, unused[BARK_PARAMETERS];
     uint8_t *to = out;

@@ -2,27 +2,19 @@
  * without checks, as the archive is. planted.sh tries them all. */
 #include "barkcushion.h"
 
-#include <string.h>
-
 #define REAL(name) __real_bark_##name
-#define WRAP(name) __wrap_bark_##name
-
-#define MESSAGE_TAKES uint8_t service, const uint8_t *path, size_t path_len, const uint8_t *data, size_t data_len, uint8_t *out, size_t out_len
-#define MESSAGE_GIVEN service, path, path_len, data, data_len, out, out_len
+/* Declares a function of the archive, which takes these, and begins what stands before it. */
+#define WRAP(name, ...)                                                                                                                       \
+    int64_t REAL(name)(__VA_ARGS__);                                                                                                          \
+    int64_t __wrap_bark_##name(__VA_ARGS__)
 #define READER_TAKES const uint8_t *s, size_t len, size_t *fields, size_t count
 #define READER_GIVEN s, len, fields, count
-#define CLOSE_TAKES                                                                                                                           \
-    uint8_t ticks, uint8_t timeout, uint16_t serial, uint16_t vendor, uint32_t originator, const uint8_t *path, size_t path_len, uint8_t *out, \
-        size_t out_len
-#define ITEM_TAKES const uint8_t *s, size_t len, size_t items, size_t index, size_t *fields, size_t count
-#define JOIN_TAKES const uint8_t *first, size_t first_len, const uint8_t *second, size_t second_len, uint8_t *out, size_t out_len
 
 #if FAULT <= 9
-int64_t REAL(write_message)(MESSAGE_TAKES);
-int64_t WRAP(write_message)(MESSAGE_TAKES)
+WRAP(write_message, uint8_t service, const uint8_t *path, size_t path_len, const uint8_t *data, size_t data_len, uint8_t *out, size_t out_len)
 {
     static unsigned calls;
-    int64_t a = REAL(write_message)(MESSAGE_GIVEN);
+    int64_t a = REAL(write_message)(service, path, path_len, data, data_len, out, out_len);
     (void)calls;
 #if FAULT == 1 /* one byte behind the size, inside the room */
     if (a >= 0 && (size_t)a < out_len)
@@ -55,8 +47,7 @@ int64_t WRAP(write_message)(MESSAGE_TAKES)
     return a;
 }
 #elif FAULT <= 14
-int64_t REAL(read_message)(READER_TAKES);
-int64_t WRAP(read_message)(READER_TAKES)
+WRAP(read_message, READER_TAKES)
 {
     int64_t a = REAL(read_message)(READER_GIVEN);
 #if FAULT == 10 /* one byte behind the input is read */
@@ -79,13 +70,12 @@ int64_t WRAP(read_message)(READER_TAKES)
 }
 #elif FAULT == 15
 /* two fields are swapped by writer and reader alike, so that what is written reads back */
-int64_t REAL(write_forward_close)(CLOSE_TAKES);
-int64_t WRAP(write_forward_close)(CLOSE_TAKES)
+WRAP(write_forward_close, uint8_t ticks, uint8_t timeout, uint16_t serial, uint16_t vendor, uint32_t originator, const uint8_t *path,
+     size_t path_len, uint8_t *out, size_t out_len)
 {
     return REAL(write_forward_close)(ticks, timeout, vendor, serial, originator, path, path_len, out, out_len);
 }
-int64_t REAL(read_forward_close)(READER_TAKES);
-int64_t WRAP(read_forward_close)(READER_TAKES)
+WRAP(read_forward_close, READER_TAKES)
 {
     int64_t a = REAL(read_forward_close)(READER_GIVEN);
     if (a >= 0) {
@@ -97,23 +87,19 @@ int64_t WRAP(read_forward_close)(READER_TAKES)
 }
 #elif FAULT == 16
 /* error 4 of document 01: a size of 512 becomes 0 */
-int64_t REAL(encode_parameters)(bool large, bool owner, uint8_t type, bool variable, uint8_t priority, uint16_t size);
-int64_t WRAP(encode_parameters)(bool large, bool owner, uint8_t type, bool variable, uint8_t priority, uint16_t size)
+WRAP(encode_parameters, bool large, bool owner, uint8_t type, bool variable, uint8_t priority, uint16_t size)
 {
     return REAL(encode_parameters)(large, owner, type, variable, priority, large ? size : size % 512);
 }
 #elif FAULT == 17
 /* error 2: the words are doubled in a byte */
-int64_t REAL(read_reply)(READER_TAKES);
-int64_t WRAP(read_reply)(READER_TAKES)
+WRAP(read_reply, READER_TAKES)
 {
     int64_t a = REAL(read_reply)(READER_GIVEN);
     return a == -BARK_SHORT && len >= 4 && len >= 4u + (uint8_t)(2 * s[3]) ? -BARK_WORDS : a;
 }
 #elif FAULT <= 19
-int64_t REAL(body_item)(const uint8_t *s, size_t len, size_t index, size_t *fields, size_t count);
-int64_t REAL(walk_item)(ITEM_TAKES);
-int64_t WRAP(walk_item)(ITEM_TAKES)
+WRAP(walk_item, const uint8_t *s, size_t len, size_t items, size_t index, size_t *fields, size_t count)
 {
 #if FAULT == 18 /* a sum that wraps: 2 + 2 * items */
     if (items > (size_t)1 << 62)
@@ -125,8 +111,7 @@ int64_t WRAP(walk_item)(ITEM_TAKES)
 #endif
 }
 #elif FAULT <= 21
-int64_t REAL(join_bodies)(JOIN_TAKES);
-int64_t WRAP(join_bodies)(JOIN_TAKES)
+WRAP(join_bodies, const uint8_t *first, size_t first_len, const uint8_t *second, size_t second_len, uint8_t *out, size_t out_len)
 {
     int64_t a = REAL(join_bodies)(first, first_len, second, second_len, out, out_len);
 #if FAULT == 20 /* the high byte of the second's offsets is lost where the first is long */
@@ -140,16 +125,14 @@ int64_t WRAP(join_bodies)(JOIN_TAKES)
 }
 #elif FAULT == 22
 /* a message at depth 4 is taken for one that holds nothing */
-int64_t REAL(read_nested)(const uint8_t *s, size_t len, uint16_t *rows, size_t count);
-int64_t WRAP(read_nested)(const uint8_t *s, size_t len, uint16_t *rows, size_t count)
+WRAP(read_nested, const uint8_t *s, size_t len, uint16_t *rows, size_t count)
 {
     int64_t a = REAL(read_nested)(s, len, rows, count);
     return a == -BARK_DEPTH ? -BARK_SHORT : a;
 }
 #elif FAULT == 23
 /* spare bytes behind the items are written too, where there is room */
-int64_t REAL(write_body)(const uint8_t *items, size_t items_len, const size_t *lengths, size_t count, uint8_t *out, size_t out_len);
-int64_t WRAP(write_body)(const uint8_t *items, size_t items_len, const size_t *lengths, size_t count, uint8_t *out, size_t out_len)
+WRAP(write_body, const uint8_t *items, size_t items_len, const size_t *lengths, size_t count, uint8_t *out, size_t out_len)
 {
     int64_t a = REAL(write_body)(items, items_len, lengths, count, out, out_len);
     size_t k, used = 0;
@@ -163,8 +146,7 @@ int64_t WRAP(write_body)(const uint8_t *items, size_t items_len, const size_t *l
 }
 #elif FAULT == 24
 /* error 3: one byte of application data may be missing */
-int64_t REAL(read_forward_open_reply)(bool routing, READER_TAKES);
-int64_t WRAP(read_forward_open_reply)(bool routing, READER_TAKES)
+WRAP(read_forward_open_reply, bool routing, READER_TAKES)
 {
     int64_t a = REAL(read_forward_open_reply)(routing, READER_GIVEN);
     if (a == -BARK_SHORT && len >= 30 && s[2] == 0 && s[3] == 0 && len == 29 + 2u * s[28])
@@ -173,8 +155,7 @@ int64_t WRAP(read_forward_open_reply)(bool routing, READER_TAKES)
 }
 #elif FAULT == 25
 /* the row of a refused item keeps what stood in it */
-int64_t REAL(read_replies)(READER_TAKES);
-int64_t WRAP(read_replies)(READER_TAKES)
+WRAP(read_replies, READER_TAKES)
 {
     size_t before = count >= BARK_REPLY_ROW ? fields[BARK_REPLY_ROW_REPLY] : 0;
     int64_t a = REAL(read_replies)(READER_GIVEN);

@@ -132,8 +132,8 @@ impl FusedIterator for Replies<'_> {}
 
 /// Reads a body and the replies in all its items in one call, which is quicker than one by one where there are many.
 ///
-/// `rows` has [`REPLY_ROW`](crate::REPLY_ROW) numbers for each item. A refused item is one of the answers and ends nothing. Refused: as
-/// [`Body::read`], then `Room`.
+/// `rows` has [`REPLY_ROW`](crate::REPLY_ROW) numbers for each item. A refused item is one of the answers and ends
+/// nothing. Refused: as [`Body::read`], then `Room`.
 ///
 /// ```
 /// use barkcushion::{read_replies, Error, REPLY_ROW};
@@ -166,7 +166,7 @@ impl<'a> Iterator for ReplyRows<'a, '_> {
     fn next(&mut self) -> Option<Result<Reply<'a>>> {
         let row: &[usize; REPLY_ROW] = self.rows.next()?.try_into().expect("rows of seven");
         let [refused, fields @ ..] = row;
-        Some(if *refused == 0 { Ok(Reply::of_fields(fields, self.bytes)) } else { Err(sys::refused(*refused)) })
+        Some(if *refused == 0 { Ok(Reply::of_fields(fields, self.bytes)) } else { Err(sys::refused(*refused as u64)) })
     }
 
     #[inline]

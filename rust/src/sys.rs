@@ -162,20 +162,12 @@ extern "C" {
 /// A size or a count, or below 0 a refusal.
 #[inline]
 fn answer(n: i64) -> Result<usize> {
-    match usize::try_from(n) {
-        Ok(n) => Ok(n),
-        Err(_) => Err(refusal(n)),
-    }
-}
-
-#[cold]
-fn refusal(n: i64) -> Error {
-    refused(usize::try_from(n.unsigned_abs()).unwrap_or(0))
+    usize::try_from(n).map_err(|_| refused(n.unsigned_abs()))
 }
 
 /// The refusal with a number.
 #[cold]
-pub(crate) fn refused(n: usize) -> Error {
+pub(crate) fn refused(n: u64) -> Error {
     let number = u8::try_from(n).ok();
     // Another number would mean an archive that is not of this header: no answer of it can be trusted.
     number.and_then(Error::from_number).unwrap_or_else(|| panic!("libbarkcushion.a answered {n}"))
@@ -183,7 +175,8 @@ pub(crate) fn refused(n: usize) -> Error {
 
 /// What a writer wrote.
 #[inline]
-fn written(out: &mut [u8], n: i64) -> Result<&[u8]> {
+fn written(out: &mut [u8], write: impl FnOnce(*mut u8, usize) -> i64) -> Result<&[u8]> {
+    let n = write(out.as_mut_ptr(), out.len());
     answer(n).map(|n| &out[..n])
 }
 
@@ -205,10 +198,8 @@ pub(crate) fn path_size(rows: &[u32], pool: &[u8]) -> Result<usize> {
 
 #[inline]
 pub(crate) fn write_path<'o>(rows: &[u32], pool: &[u8], out: &'o mut [u8]) -> Result<&'o [u8]> {
-    let (to, room) = (out.as_mut_ptr(), out.len());
     // SAFETY: lent slices.
-    let n = unsafe { bark_write_path(rows.as_ptr(), rows.len(), pool.as_ptr(), pool.len(), to, room) };
-    written(out, n)
+    written(out, |to, room| unsafe { bark_write_path(rows.as_ptr(), rows.len(), pool.as_ptr(), pool.len(), to, room) })
 }
 
 #[inline]
@@ -227,11 +218,11 @@ pub(crate) fn read_path(path: &[u8], rows: &mut [u32]) -> Result<usize> {
 
 #[inline]
 pub(crate) fn write_message<'o>(m: &Message<'_>, out: &'o mut [u8]) -> Result<&'o [u8]> {
-    let (to, room) = (out.as_mut_ptr(), out.len());
     let (path, data) = (m.path, m.data);
     // SAFETY: lent slices.
-    let n = unsafe { bark_write_message(m.service, path.as_ptr(), path.len(), data.as_ptr(), data.len(), to, room) };
-    written(out, n)
+    written(out, |to, room| unsafe {
+        bark_write_message(m.service, path.as_ptr(), path.len(), data.as_ptr(), data.len(), to, room)
+    })
 }
 
 #[inline]
@@ -242,10 +233,9 @@ pub(crate) fn read_message(s: &[u8]) -> Result<[usize; 5]> {
 
 #[inline]
 pub(crate) fn write_unconnected_send<'o>(u: &UnconnectedSend<'_>, out: &'o mut [u8]) -> Result<&'o [u8]> {
-    let (to, room) = (out.as_mut_ptr(), out.len());
     let (m, path) = (u.message, u.path);
     // SAFETY: lent slices.
-    let n = unsafe {
+    written(out, |to, room| unsafe {
         bark_write_unconnected_send(
             u.priority_ticks,
             u.timeout_ticks,
@@ -256,8 +246,7 @@ pub(crate) fn write_unconnected_send<'o>(u: &UnconnectedSend<'_>, out: &'o mut [
             to,
             room,
         )
-    };
-    written(out, n)
+    })
 }
 
 #[inline]
@@ -311,9 +300,8 @@ pub(crate) fn write_forward_open<'o>(
     transport: u8,
     out: &'o mut [u8],
 ) -> Result<&'o [u8]> {
-    let (to, room) = (out.as_mut_ptr(), out.len());
     // SAFETY: lent slices.
-    let n = unsafe {
+    written(out, |to, room| unsafe {
         bark_write_forward_open(
             o.form.is_large(),
             o.priority_tick_time,
@@ -334,8 +322,7 @@ pub(crate) fn write_forward_open<'o>(
             to,
             room,
         )
-    };
-    written(out, n)
+    })
 }
 
 #[inline]
@@ -353,9 +340,8 @@ pub(crate) fn default_forward_open(large: bool, serial: u16) -> Result<[usize; 1
 
 #[inline]
 pub(crate) fn write_forward_close<'o>(c: &ForwardClose<'_>, out: &'o mut [u8]) -> Result<&'o [u8]> {
-    let (to, room) = (out.as_mut_ptr(), out.len());
     // SAFETY: lent slices.
-    let n = unsafe {
+    written(out, |to, room| unsafe {
         bark_write_forward_close(
             c.priority_ticks,
             c.timeout_ticks,
@@ -367,8 +353,7 @@ pub(crate) fn write_forward_close<'o>(c: &ForwardClose<'_>, out: &'o mut [u8]) -
             to,
             room,
         )
-    };
-    written(out, n)
+    })
 }
 
 #[inline]
@@ -406,9 +391,8 @@ pub(crate) fn read_forward_close_reply(routing: bool, s: &[u8]) -> Result<[usize
 
 #[inline]
 pub(crate) fn write_opened<'o>(r: &Opened<'_>, out: &'o mut [u8]) -> Result<&'o [u8]> {
-    let (to, room) = (out.as_mut_ptr(), out.len());
     // SAFETY: lent slices.
-    let n = unsafe {
+    written(out, |to, room| unsafe {
         bark_write_forward_open_success(
             r.service,
             r.o_t_connection_id,
@@ -423,15 +407,13 @@ pub(crate) fn write_opened<'o>(r: &Opened<'_>, out: &'o mut [u8]) -> Result<&'o 
             to,
             room,
         )
-    };
-    written(out, n)
+    })
 }
 
 #[inline]
 pub(crate) fn write_closed<'o>(r: &Closed<'_>, out: &'o mut [u8]) -> Result<&'o [u8]> {
-    let (to, room) = (out.as_mut_ptr(), out.len());
     // SAFETY: lent slices.
-    let n = unsafe {
+    written(out, |to, room| unsafe {
         bark_write_forward_close_success(
             r.service,
             r.connection_serial_number,
@@ -442,16 +424,14 @@ pub(crate) fn write_closed<'o>(r: &Closed<'_>, out: &'o mut [u8]) -> Result<&'o 
             to,
             room,
         )
-    };
-    written(out, n)
+    })
 }
 
 #[inline]
 pub(crate) fn write_failure<'o>(r: &Failure, out: &'o mut [u8]) -> Result<&'o [u8]> {
-    let (to, room) = (out.as_mut_ptr(), out.len());
     let (word, left) = (r.status.extended, r.remaining);
     // SAFETY: lent slices.
-    let n = unsafe {
+    written(out, |to, room| unsafe {
         bark_write_forward_failure(
             r.service,
             r.status.general,
@@ -465,8 +445,7 @@ pub(crate) fn write_failure<'o>(r: &Failure, out: &'o mut [u8]) -> Result<&'o [u
             to,
             room,
         )
-    };
-    written(out, n)
+    })
 }
 
 #[inline]
@@ -479,10 +458,10 @@ pub(crate) fn read_envelope(s: &[u8]) -> Result<[usize; 4]> {
 
 #[inline]
 pub(crate) fn write_body<'o>(items: &[u8], lengths: &[usize], out: &'o mut [u8]) -> Result<&'o [u8]> {
-    let (to, room) = (out.as_mut_ptr(), out.len());
     // SAFETY: lent slices.
-    let n = unsafe { bark_write_body(items.as_ptr(), items.len(), lengths.as_ptr(), lengths.len(), to, room) };
-    written(out, n)
+    written(out, |to, room| unsafe {
+        bark_write_body(items.as_ptr(), items.len(), lengths.as_ptr(), lengths.len(), to, room)
+    })
 }
 
 #[inline]
@@ -511,10 +490,10 @@ pub(crate) fn read_replies(s: &[u8], rows: &mut [usize]) -> Result<usize> {
 
 #[inline]
 pub(crate) fn join_bodies<'o>(first: &[u8], second: &[u8], out: &'o mut [u8]) -> Result<&'o [u8]> {
-    let (to, room) = (out.as_mut_ptr(), out.len());
     // SAFETY: lent slices.
-    let n = unsafe { bark_join_bodies(first.as_ptr(), first.len(), second.as_ptr(), second.len(), to, room) };
-    written(out, n)
+    written(out, |to, room| unsafe {
+        bark_join_bodies(first.as_ptr(), first.len(), second.as_ptr(), second.len(), to, room)
+    })
 }
 
 #[inline]

@@ -10,14 +10,16 @@ use crate::case::bodies::{Ask, Items, Join};
 use crate::case::replies::{routing_of_line, Reply};
 use crate::case::requests::{default_of_line, Request};
 use crate::case::{digits, meaning, Plain, Writer, ATTRIBUTE, CLASS, ELEMENT, INSTANCE, PORT, SYMBOL};
-use crate::{bytes_of, enc, guard, Encode, OracleError};
-use bytes::{Bytes, BytesMut};
+use crate::{both_ways, Encode, OracleError};
+use bytes::Bytes;
 use rseip_cip::epath::{EPath, PortSegment, Segment};
 
 /// Document 01's domain of the Rust: what is accepted there, with symbols that its `String` can hold.
 const MOST_SEGMENTS: usize = 127;
 const LONGEST_SYMBOL: usize = 255;
 const LONGEST_LINK: usize = 254;
+const LONGEST_PATH: usize = 254;
+const LONGEST_RECORD: usize = 65_535;
 
 /// None: not in the domain.
 fn segment(p: &Plain) -> Option<Segment> {
@@ -65,20 +67,14 @@ pub type Wrote = Result<Vec<u8>, String>;
 
 /// By reference, by value, and the count: all three have to agree.
 fn wrote<E: Encode>(v: E) -> Wrote {
-    guard(move || {
-        let by_ref = bytes_of(&v);
-        let count = v.bytes_count();
-        let mut by_value = BytesMut::new();
-        v.encode(&mut by_value, &mut enc()).map_err(|e| format!("the crate gave an error: {e:?}"))?;
-        if by_ref[..] != by_value[..] {
-            return Err("the crate's encode and encode_by_ref differ".into());
+    match both_ways(v) {
+        Ok((by_ref, by_value, _)) if by_ref[..] != by_value[..] => Err("the crate's encode and encode_by_ref differ".into()),
+        Ok((by_ref, _, count)) if count != by_ref.len() => {
+            Err(format!("the crate wrote {} bytes and counted {count}", by_ref.len()))
         }
-        if count != by_ref.len() {
-            return Err(format!("the crate wrote {} bytes and counted {count}", by_ref.len()));
-        }
-        Ok(by_ref)
-    })
-    .unwrap_or_else(|p| Err(format!("the crate panicked: {p}")))
+        Ok((by_ref, ..)) => Ok(by_ref),
+        Err(p) => Err(format!("the crate panicked: {p}")),
+    }
 }
 
 pub fn one(p: &Plain) -> Option<Wrote> {

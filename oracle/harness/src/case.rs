@@ -7,6 +7,8 @@ pub mod nested;
 pub mod replies;
 pub mod requests;
 
+use fields::whole;
+
 pub const SYMBOL: u8 = 0;
 pub const CLASS: u8 = 1;
 pub const INSTANCE: u8 = 2;
@@ -67,29 +69,16 @@ impl Writer {
     }
     /// The case of a line that `line` made; None for every other line.
     pub fn of_line(line: &[u8]) -> Option<Writer> {
-        let b = undigits(line)?;
-        let op = *b.first()?;
-        if !(1..=4).contains(&op) {
-            return None;
-        }
-        let pool_len = u32_at(&b, 1)? as usize;
-        let pool = b.get(5..5 + pool_len)?.to_vec();
-        let mut at = 5 + pool_len;
-        let mut w = Writer { op, pool, list: vec![], room: 0 };
-        let mut count = 1;
-        if !w.one_segment() {
-            count = u32::from(u16::from_le_bytes([*b.get(at)?, *b.get(at + 1)?]));
-            at += 2;
-        }
-        for _ in 0..count {
-            w.list.push(seg_at(&b, at)?);
-            at += 13;
-        }
-        if w.has_room() {
-            w.room = u32_at(&b, at)?;
-            at += 4;
-        }
-        (at == b.len()).then_some(w)
+        whole(line, |op, t| {
+            let pool = t.run().filter(|_| (1..=4).contains(&op))?;
+            let mut w = Writer { op, pool, list: vec![], room: 0 };
+            let count = if w.one_segment() { 1 } else { t.u16()? };
+            w.list = (0..count).map(|_| t.seg()).collect::<Option<_>>()?;
+            if w.has_room() {
+                w.room = t.u32()?;
+            }
+            Some(w)
+        })
     }
 }
 
@@ -132,15 +121,6 @@ pub fn put_seg(b: &mut Vec<u8>, s: &Seg) {
     b.extend(s.number.to_le_bytes());
     b.extend(s.start.to_le_bytes());
     b.extend(s.len.to_le_bytes());
-}
-
-pub fn u32_at(b: &[u8], at: usize) -> Option<u32> {
-    Some(u32::from_le_bytes(b.get(at..at + 4)?.try_into().unwrap()))
-}
-
-/// The segment in the 13 bytes at a place.
-pub fn seg_at(b: &[u8], at: usize) -> Option<Seg> {
-    Some(Seg { kind: *b.get(at)?, number: u32_at(b, at + 1)?, start: u32_at(b, at + 5)?, len: u32_at(b, at + 9)? })
 }
 
 /// Capital hex, no blanks.

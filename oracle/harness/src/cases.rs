@@ -1,5 +1,4 @@
-//! The cases. Each group of operations has files of its own below; a later landing adds its file, and a line to
-//! `fixed` and to `random`.
+//! The cases. Each group of operations has files of its own below, and lines in `fixed` and in `random`.
 
 pub mod bodies;
 pub mod bodies_drawn;
@@ -132,6 +131,11 @@ pub fn ask_reader(to: &mut Sink, op: u8, input: &[u8]) {
     to(Case { line: reader_line(op, input), truth });
 }
 
+/// What the crate writes for a segment of its domain.
+pub fn written(p: &Plain) -> Vec<u8> {
+    ask_crate::one(p).and_then(Result::ok).unwrap_or_default()
+}
+
 /// What the crate wrote for a list, given to the three readers.
 pub fn read_back(to: &mut Sink, list: &[Plain], input: &[u8]) {
     // an empty link is written as link 0, and reads back as that
@@ -139,7 +143,7 @@ pub fn read_back(to: &mut Sink, list: &[Plain], input: &[u8]) {
     // 06 reads the front, then the front of what is left; of a long list only the first few, for the sake of time
     let mut rest = input;
     for first in list.iter().take(4) {
-        let size = ask_crate::one(first).and_then(Result::ok).map_or(0, |b| b.len());
+        let size = written(first).len();
         let truth = Truth::Front { first: first.clone(), size: size as u32, input: rest.to_vec() };
         to(Case { line: reader_line(6, rest), truth });
         rest = rest.get(size..).unwrap_or_default();

@@ -12,11 +12,13 @@ pub mod run;
 pub mod tally;
 
 use bytes::{Bytes, BytesMut};
-use rseip_cip::{service::MessageService, MessageReplyInterface, MessageRequest};
+use rseip_cip::service::{CommonServices, MessageService};
+use rseip_cip::{MessageReplyInterface, MessageRequest};
 pub use rseip_core::{
     codec::{BytesHolder, Decode, Decoder, Encode, Encoder, LittleEndianDecoder, LittleEndianEncoder},
     Either, OracleError,
 };
+use smallvec::SmallVec;
 use std::future::Future;
 use std::panic::{catch_unwind, AssertUnwindSafe};
 
@@ -40,6 +42,18 @@ pub fn bytes_of<T: Encode>(v: &T) -> Vec<u8> {
     let mut b = BytesMut::new();
     v.encode_by_ref(&mut b, &mut enc()).unwrap();
     b.to_vec()
+}
+/// What the crate writes by reference and by value, and its count; or the panic's text
+pub fn both_ways<T: Encode>(v: T) -> Result<(Vec<u8>, BytesMut, usize), String> {
+    guard(move || {
+        let (by_ref, count, mut by_value) = (bytes_of(&v), v.bytes_count(), BytesMut::new());
+        v.encode(&mut by_value, &mut enc()).unwrap();
+        (by_ref, by_value, count)
+    })
+}
+/// The crate's body of these items
+pub fn body_of(items: impl IntoIterator<Item = Bytes>) -> impl Encode {
+    Capture::oracle_body(items.into_iter().collect::<SmallVec<[Bytes; 4]>>())
 }
 
 thread_local!(static LAST: std::cell::RefCell<String> = const { std::cell::RefCell::new(String::new()) });

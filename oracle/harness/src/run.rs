@@ -1,8 +1,9 @@
 //! Asks the program `answers` and holds what it says against the crate and the judge.
 
 use crate::ask_crate;
+use crate::case::fields::whole;
 use crate::case::replies::Status;
-use crate::case::{meaning, seg_at, u32_at, undigits, Plain, SYMBOL};
+use crate::case::{meaning, Plain, SYMBOL};
 use crate::cases::{self, Case, Truth};
 use crate::judge;
 use crate::rng::Rng;
@@ -205,31 +206,23 @@ fn written_again(line: &[u8], list: &[Plain], input: &[u8], ours: &[u8], tally: 
 
 /// The list in an answer to 05, over its input; None where the answer has none.
 fn read_list(answer: &[u8], input: &[u8]) -> Option<Vec<Plain>> {
-    let b = undigits(answer)?;
-    let count = u16::from_le_bytes([*b.get(1)?, *b.get(2)?]) as usize;
-    if b[0] != 0 || b.len() != 3 + 13 * count {
-        return None;
-    }
-    (0..count).map(|i| meaning(input, &seg_at(&b, 3 + 13 * i)?)).collect()
+    whole(answer, |refused, t| {
+        let list: Option<Vec<Plain>> = (0..t.u16()?).map(|_| meaning(input, &t.seg()?)).collect();
+        list.filter(|_| refused == 0)
+    })
 }
 
+/// The segment in an answer to 06, and its size.
 fn read_front(answer: &[u8], input: &[u8]) -> Option<(Plain, u32)> {
-    let b = undigits(answer)?;
-    if b.len() != 18 || b[0] != 0 {
-        return None;
-    }
-    Some((meaning(input, &seg_at(&b, 1)?)?, u32_at(&b, 14)?))
+    whole(answer, |refused, t| (refused == 0).then_some((meaning(input, &t.seg()?)?, t.u32()?)))
 }
 
 /// The status in an answer to 33.
 fn status_read(answer: &[u8]) -> Option<Status> {
-    let b = undigits(answer)?;
-    match b[..] {
-        [0, _, general, words, low, high, ..] if b.len() == 14 => {
-            Some(Status { general, words, word: u16::from_le_bytes([low, high]) })
-        }
-        _ => None,
-    }
+    whole(answer, |refused, t| {
+        let (_service, status, _data) = (t.u8()?, t.status()?, t.u64()?);
+        (refused == 0).then_some(status)
+    })
 }
 
 fn text(list: &[Plain]) -> String {

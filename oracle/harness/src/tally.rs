@@ -144,7 +144,7 @@ impl Tally {
     }
 }
 
-/// The operation of a line; a later landing adds its own.
+/// The operation of a line.
 fn operation(line: &[u8]) -> &'static str {
     const KNOWN: [&str; 31] = [
         "01", "02", "03", "04", "05", "06", "07", "10", "11", "12", "13", "14", "15", "18", "19", "1A", "1B", "20", "21", "22",

@@ -29,22 +29,17 @@ pub trait Encode {
     fn bytes_count(&self) -> usize;
 }
 // raw bytes and nothing, as lent data
-macro_rules! raw_bytes {
-    ($($t:ty),*) => {$(
-        impl Encode for $t {
-            #[inline]
-            fn encode_by_ref<A: Encoder>(&self, buf: &mut BytesMut, _: &mut A) -> Result<(), A::Error> {
-                buf.put_slice(self);
-                Ok(())
-            }
-            #[inline]
-            fn bytes_count(&self) -> usize {
-                self.len()
-            }
-        }
-    )*};
+impl Encode for Bytes {
+    #[inline]
+    fn encode_by_ref<A: Encoder>(&self, buf: &mut BytesMut, _: &mut A) -> Result<(), A::Error> {
+        buf.put_slice(self);
+        Ok(())
+    }
+    #[inline]
+    fn bytes_count(&self) -> usize {
+        self.len()
+    }
 }
-raw_bytes!(Bytes, &[u8]);
 impl Encode for () {
     #[inline]
     fn encode_by_ref<A: Encoder>(&self, _: &mut BytesMut, _: &mut A) -> Result<(), A::Error> {

@@ -5,25 +5,22 @@
 //! and each before it is read exactly to its end: a good header, and a failed one without data.
 
 use super::replies::header_answer;
-use super::{writer_answer, wrote, Did, Wrote};
+use super::{writer_answer, wrote, Did, Wrote, LONGEST_RECORD};
 use crate::case::bodies::{Ask, Items, Join};
 use crate::case::digits;
 use crate::case::replies::Status;
-use crate::{dec, Capture, Decode, Decoder, OracleError};
+use crate::{body_of, dec, Capture, Decode, Decoder, OracleError};
 use bytes::{Buf, Bytes};
 use rseip_cip::service::CommonServices;
-use smallvec::SmallVec;
 use std::cell::Cell;
 
-const LONGEST_BODY: usize = 65_535;
-
 pub fn encoded(items: &[&[u8]]) -> Wrote {
-    wrote(Capture::oracle_body(items.iter().map(|i| Bytes::copy_from_slice(i)).collect::<SmallVec<[Bytes; 4]>>()))
+    wrote(body_of(items.iter().map(|i| Bytes::copy_from_slice(i))))
 }
 
 fn are_in_domain(items: &[&[u8]]) -> bool {
     let size = 2 + items.iter().map(|i| 2 + i.len()).sum::<usize>();
-    size <= LONGEST_BODY && items.iter().all(|i| !i.is_empty())
+    size <= LONGEST_RECORD && items.iter().all(|i| !i.is_empty())
 }
 
 /// The answer line of 30; Err with what the encoder did where the case is not in the domain, or has too little room.

@@ -4,15 +4,13 @@
 //! the domain where what we are told is what the crate decides; on success neither looks. An input is in the domain up
 //! to 65,535 bytes. There the crate has to accept exactly what document 01 accepts.
 
-use super::Did;
+use super::{Did, LONGEST_RECORD};
 use crate::case::fields::Take;
 use crate::case::replies::{Body, Forward, Ids, Reply, Status};
 use crate::case::{digits, undigits};
 use crate::{dec, guard, Dec, Decode, Decoder, Either, OracleError};
 use rseip_cip::codec::decode::message_reply::decode_service_and_status;
 use rseip_cip::connection::{ForwardCloseReply, ForwardOpenReply, ForwardRequestFail};
-
-const LONGEST_REPLY: usize = 65_535;
 
 /// What the crate did with a reply that is not to be compared.
 #[derive(Clone, Copy, PartialEq, Eq, PartialOrd, Ord, Debug)]
@@ -105,7 +103,7 @@ pub fn answer(r: &Reply) -> Result<Vec<u8>, Beside> {
     // who can't read the header has no status to look at
     let told_alike = r.op == 0x20 || header(&r.input).map_or(true, |(_, s, _)| s.is_ok() || said(&s) == r.routing);
     match line(r) {
-        Ok(a) if told_alike && r.input.len() <= LONGEST_REPLY => Ok(a),
+        Ok(a) if told_alike && r.input.len() <= LONGEST_RECORD => Ok(a),
         other => Err(Beside { did: other.err().unwrap_or(Did::Accepted), told_alike }),
     }
 }

@@ -7,7 +7,7 @@
 //! else as raw bytes. What is left to the judge is a message of 0 or 1 bytes, one cut short in its path, and one with a
 //! longer path, which a release build would write and a debug build refuses.
 
-use super::{epath, segment, wrote, Wrote};
+use super::{epath, segment, wrote, Wrote, LONGEST_PATH, LONGEST_RECORD};
 use crate::case::requests::{Close, Head, Open, Par, Record, Request};
 use crate::case::{digits, meaning, plain, Plain, ATTRIBUTE, CLASS, ELEMENT, INSTANCE, PORT, SYMBOL};
 use crate::Encode;
@@ -20,8 +20,6 @@ use rseip_cip::epath::EPath;
 use rseip_cip::service::request::UnconnectedSend;
 use rseip_cip::MessageRequest;
 
-pub const LONGEST_PATH: usize = 254;
-pub const LONGEST_RECORD: usize = 65_535;
 const MOST_SMALL_SIZE: u16 = 511;
 
 /// What the crate writes for a record; None: not in the domain.

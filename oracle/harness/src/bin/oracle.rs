@@ -9,16 +9,15 @@
 //!   walk HEX                        each item typed to read exactly its own span (spans from the offsets)
 //!   env0 HEX | env1 HEX             null/B2, A1/B1 (rests on the stand-in CommonPacketIter)
 //! answers: ok .. | err short|two-words|status G E|other TEXT | panic TEXT | na TEXT
-use bytes::{Bytes, BytesMut};
+use bytes::Bytes;
 use harness::ask_crate::bodies::{self, failed_status, Given};
 use harness::*;
 use rseip_cip::codec::decode::message_reply::*;
 use rseip_cip::connection::*;
 use rseip_cip::epath::*;
-use rseip_cip::service::{request::UnconnectedSend, CommonServices};
+use rseip_cip::service::request::UnconnectedSend;
 use rseip_cip::{MessageReply, MessageRequest, Status};
 use rseip_core::cip::CommonPacketIter;
-use smallvec::SmallVec;
 use std::io::{BufRead, Write};
 
 fn num(s: &str) -> Result<u64, String> {
@@ -74,15 +73,9 @@ fn par(s: &str) -> Result<ConnectionParameters, String> {
     })
 }
 fn put<E: Encode>(v: E) -> String {
-    match guard(|| {
-        let a = bytes_of(&v);
-        let n = v.bytes_count();
-        let mut b = BytesMut::new();
-        v.encode(&mut b, &mut enc()).unwrap();
-        (a, n, b)
-    }) {
-        Ok((a, n, b)) if a[..] == b[..] && n == a.len() => format!("ok {}", flat(&a)),
-        Ok((a, n, b)) => format!("ok-but {} by-value {} count {}", flat(&a), flat(&b), n),
+    match both_ways(v) {
+        Ok((a, b, n)) if a[..] == b[..] && n == a.len() => format!("ok {}", flat(&a)),
+        Ok((a, b, n)) => format!("ok-but {} by-value {} count {}", flat(&a), flat(&b), n),
         Err(p) => format!("panic {}", p),
     }
 }
@@ -178,18 +171,14 @@ fn line(t: &[&str]) -> Result<String, String> {
                 data: MessageRequest::new(n(3)? as u8, path(&t[5..cut])?, Bytes::from(raw(s(4)?))),
             })
         }
-        "body" => put(Capture::oracle_body(t[1..].iter().map(|x| Bytes::from(raw(x))).collect::<SmallVec<[Bytes; 4]>>())),
+        "body" => put(body_of(t[1..].iter().map(|x| Bytes::from(raw(x))))),
         "hdr" => {
             let b = raw(s(1)?);
-            match guard(|| {
-                let mut d = dec(&b);
-                let r = decode_service_and_status(&mut d);
-                (r, d.buf().to_vec())
-            }) {
-                Ok((Ok((v, x)), rest)) => format!("ok {} {} {}", v, st(&x), flat(&rest)),
-                Ok((Err(e), _)) => err(e),
-                Err(p) => format!("panic {}", p),
-            }
+            let mut d = dec(&b);
+            said(
+                || decode_service_and_status(&mut d).map(|(v, x)| (v, x, d.buf().to_vec())),
+                |(v, x, rest)| format!("{} {} {}", v, st(&x), flat(&rest)),
+            )
         }
         "fopen" => {
             let b = raw(s(1)?);

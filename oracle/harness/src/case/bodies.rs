@@ -1,7 +1,7 @@
 //! Bodies as values, and the lines that ask about them: 30 to 34.
 
-use super::fields::Take;
-use super::{digits, put_run, undigits};
+use super::fields::whole;
+use super::{digits, put_run};
 
 /// A case of 30. Lengths as in a line, so that one can be made which no item has.
 #[derive(Clone, Debug)]
@@ -105,13 +105,4 @@ impl Join {
     pub fn of_line(line: &[u8]) -> Option<Join> {
         whole(line, |op, t| (op == 0x34).then_some(Join { first: t.run()?, second: t.run()?, room: t.u32()? }))
     }
-}
-
-/// A line taken apart to its end: the operation, and then its fields.
-fn whole<T>(line: &[u8], fields: impl FnOnce(u8, &mut Take) -> Option<T>) -> Option<T> {
-    let bytes = undigits(line)?;
-    let mut t = Take(&bytes);
-    let op = t.u8()?;
-    let case = fields(op, &mut t)?;
-    t.0.is_empty().then_some(case)
 }

@@ -1,7 +1,8 @@
-//! The fields of a request in a line: put, and taken off the front again.
+//! The fields of a line: put, and taken off the front again.
 
+use super::replies::Status;
 use super::requests::{Close, Open, Par};
-use super::{seg_at, u32_at, Seg};
+use super::{undigits, Seg};
 
 pub fn put_open(b: &mut Vec<u8>, o: &Open) {
     b.extend([o.prio, o.ticks]);
@@ -26,36 +27,47 @@ pub fn put_close(b: &mut Vec<u8>, c: &Close) {
     b.extend(c.originator.to_le_bytes());
 }
 
+/// A line or an answer taken apart to its end: its first byte, and then its fields.
+pub fn whole<T>(line: &[u8], fields: impl FnOnce(u8, &mut Take) -> Option<T>) -> Option<T> {
+    let bytes = undigits(line)?;
+    let mut t = Take(&bytes);
+    let first = t.u8()?;
+    let taken = fields(first, &mut t)?;
+    t.0.is_empty().then_some(taken)
+}
+
 /// Fields off the front; None where they are cut short.
 pub struct Take<'a>(pub &'a [u8]);
 
 impl Take<'_> {
-    pub fn u8(&mut self) -> Option<u8> {
-        let (first, rest) = self.0.split_first()?;
+    fn bytes<const N: usize>(&mut self) -> Option<[u8; N]> {
+        let (front, rest) = self.0.split_first_chunk()?;
         self.0 = rest;
-        Some(*first)
+        Some(*front)
+    }
+    pub fn u8(&mut self) -> Option<u8> {
+        self.bytes().map(u8::from_le_bytes)
     }
     pub fn u16(&mut self) -> Option<u16> {
-        Some(u16::from_le_bytes([self.u8()?, self.u8()?]))
+        self.bytes().map(u16::from_le_bytes)
     }
     pub fn u32(&mut self) -> Option<u32> {
-        let n = u32_at(self.0, 0)?;
-        self.0 = &self.0[4..];
-        Some(n)
+        self.bytes().map(u32::from_le_bytes)
     }
     pub fn u64(&mut self) -> Option<u64> {
-        Some(u64::from(self.u32()?) | u64::from(self.u32()?) << 32)
+        self.bytes().map(u64::from_le_bytes)
     }
     pub fn run(&mut self) -> Option<Vec<u8>> {
         let n = self.u32()? as usize;
-        let run = self.0.get(..n)?.to_vec();
-        self.0 = &self.0[n..];
-        Some(run)
+        let (run, rest) = self.0.split_at_checked(n)?;
+        self.0 = rest;
+        Some(run.to_vec())
     }
     pub fn seg(&mut self) -> Option<Seg> {
-        let s = seg_at(self.0, 0)?;
-        self.0 = &self.0[13..];
-        Some(s)
+        Some(Seg { kind: self.u8()?, number: self.u32()?, start: self.u32()?, len: self.u32()? })
+    }
+    pub fn status(&mut self) -> Option<Status> {
+        Some(Status { general: self.u8()?, words: self.u8()?, word: self.u16()? })
     }
     /// What a start and a length name in an input.
     pub fn part(&mut self, input: &[u8]) -> Option<Vec<u8>> {

@@ -1,7 +1,7 @@
 //! Nested messages as values, and the line that asks about them: 40.
 
-use super::fields::Take;
-use super::{digits, plain, reader_line, undigits, Plain, CLASS, INSTANCE};
+use super::fields::whole;
+use super::{digits, plain, reader_line, Plain, CLASS, INSTANCE};
 
 /// A message, with the messages that it holds.
 #[derive(Clone, PartialEq, Eq, Debug)]
@@ -46,10 +46,7 @@ pub fn line(input: &[u8]) -> Vec<u8> {
 
 /// The input of a line that `line` made; None for every other line.
 pub fn of_line(line: &[u8]) -> Option<Vec<u8>> {
-    let bytes = undigits(line)?;
-    let mut t = Take(&bytes);
-    let input = t.u8().filter(|op| *op == 0x40).and_then(|_| t.run())?;
-    t.0.is_empty().then_some(input)
+    whole(line, |op, t| t.run().filter(|_| op == 0x40))
 }
 
 /// An accepted answer.

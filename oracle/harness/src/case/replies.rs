@@ -1,7 +1,7 @@
 //! Replies as values, and the lines that ask about them: 20 to 27.
 
-use super::fields::Take;
-use super::{digits, put_run, undigits};
+use super::fields::whole;
+use super::{digits, put_run};
 
 /// A status. Numbers as in a line, so that one can be made which no status has.
 #[derive(Clone, Copy, PartialEq, Eq, Debug)]
@@ -160,12 +160,11 @@ impl Reply {
     }
     /// The case of a line that `line` made for 20 to 22; None for every other line.
     pub fn of_line(line: &[u8]) -> Option<Reply> {
-        let bytes = undigits(line)?;
-        let mut t = Take(&bytes);
-        let op = t.u8().filter(|op| (0x20..=0x22).contains(op))?;
-        let routing = if Self::is_told(op) { t.u8()? } else { 0 };
-        let input = t.run()?;
-        t.0.is_empty().then_some(Reply { op, routing, input })
+        whole(line, |op, t| {
+            let routing = if Self::is_told(op) { t.u8()? } else { 0 };
+            let input = t.run().filter(|_| (0x20..=0x22).contains(&op))?;
+            Some(Reply { op, routing, input })
+        })
     }
 }
 
@@ -176,8 +175,5 @@ pub fn routing_line(s: &Status) -> Vec<u8> {
 
 /// The status in a line of 27.
 pub fn routing_of_line(line: &[u8]) -> Option<Status> {
-    let bytes = undigits(line)?;
-    let mut t = Take(&bytes);
-    let s = (t.u8()? == 0x27).then_some(Status { general: t.u8()?, words: t.u8()?, word: t.u16()? });
-    t.0.is_empty().then_some(s?)
+    whole(line, |op, t| t.status().filter(|_| op == 0x27))
 }

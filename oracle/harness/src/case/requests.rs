@@ -1,7 +1,7 @@
 //! Requests as values, and the lines that ask about them: 10 to 15, 18 to 1B.
 
-use super::fields::{put_close, put_open, Take};
-use super::{digits, put_run, put_seg, undigits, Seg};
+use super::fields::{put_close, put_open, whole};
+use super::{digits, put_run, put_seg, Seg};
 
 /// Connection parameters. Enumerated fields are numbers, so that a line can hold one that no record has.
 #[derive(Clone, Copy, PartialEq, Eq, Debug)]
@@ -139,25 +139,24 @@ impl Request {
     }
     /// The case of a line that `line` made; None for every other line.
     pub fn of_line(line: &[u8]) -> Option<Request> {
-        let bytes = undigits(line)?;
-        let mut t = Take(&bytes);
-        let mut head = match t.u8()? {
-            0x10 => Head::Message { service: t.u8()?, data: vec![] },
-            0x11 => {
-                let large = t.u8()?;
-                Head::Open(t.open(large)?)
+        whole(line, |op, t| {
+            let mut head = match op {
+                0x10 => Head::Message { service: t.u8()?, data: vec![] },
+                0x11 => {
+                    let large = t.u8()?;
+                    Head::Open(t.open(large)?)
+                }
+                0x12 => Head::Close(t.close()?),
+                0x13 => Head::Send { prio: t.u8()?, ticks: t.u8()?, message: t.run()? },
+                _ => return None,
+            };
+            let pool = t.run()?;
+            let list = (0..t.u16()?).map(|_| t.seg()).collect::<Option<_>>()?;
+            if let Head::Message { data, .. } = &mut head {
+                *data = t.run()?;
             }
-            0x12 => Head::Close(t.close()?),
-            0x13 => Head::Send { prio: t.u8()?, ticks: t.u8()?, message: t.run()? },
-            _ => return None,
-        };
-        let pool = t.run()?;
-        let list = (0..t.u16()?).map(|_| t.seg()).collect::<Option<Vec<Seg>>>()?;
-        if let Head::Message { data, .. } = &mut head {
-            *data = t.run()?;
-        }
-        let room = t.u32()?;
-        t.0.is_empty().then_some(Request { head, pool, list, room })
+            Some(Request { head, pool, list, room: t.u32()? })
+        })
     }
 }
 
@@ -168,10 +167,7 @@ pub fn default_line(large: u8, serial: u16, room: u32) -> Vec<u8> {
 
 /// The case of a line of 14: large, serial, room.
 pub fn default_of_line(line: &[u8]) -> Option<(u8, u16, u32)> {
-    let bytes = undigits(line)?;
-    let mut t = Take(&bytes);
-    let case = (t.u8()? == 0x14).then_some((t.u8()?, t.u16()?, t.u32()?));
-    t.0.is_empty().then_some(case?)
+    whole(line, |op, t| (op == 0x14).then_some((t.u8()?, t.u16()?, t.u32()?)))
 }
 
 /// A line of 15.
@@ -202,23 +198,20 @@ impl Record {
     }
     /// What an accepted answer says was read: the head, and the path's bytes. None for every other answer.
     pub fn read(&self, answer: &[u8]) -> Option<(Head, Vec<u8>)> {
-        let bytes = undigits(answer)?;
-        let mut t = Take(&bytes);
-        if t.u8()? != 0 {
-            return None;
-        }
-        let (head, path) = match self.op {
-            0x18 => {
-                let (service, path) = (t.u8()?, t.part(&self.input)?);
-                (Head::Message { service, data: t.part(&self.input)? }, path)
-            }
-            0x19 => (Head::Open(t.open(self.large)?), t.part(&self.input)?),
-            0x1A => (Head::Close(t.close()?), t.part(&self.input)?),
-            _ => {
-                let (prio, ticks) = (t.u8()?, t.u8()?);
-                (Head::Send { prio, ticks, message: t.part(&self.input)? }, t.part(&self.input)?)
-            }
-        };
-        t.0.is_empty().then_some((head, path))
+        whole(answer, |refused, t| {
+            Some(match self.op {
+                _ if refused != 0 => return None,
+                0x18 => {
+                    let (service, path) = (t.u8()?, t.part(&self.input)?);
+                    (Head::Message { service, data: t.part(&self.input)? }, path)
+                }
+                0x19 => (Head::Open(t.open(self.large)?), t.part(&self.input)?),
+                0x1A => (Head::Close(t.close()?), t.part(&self.input)?),
+                _ => {
+                    let (prio, ticks) = (t.u8()?, t.u8()?);
+                    (Head::Send { prio, ticks, message: t.part(&self.input)? }, t.part(&self.input)?)
+                }
+            })
+        })
     }
 }

@@ -44,6 +44,11 @@ pub fn body(items: &[Vec<u8>]) -> Vec<u8> {
     encoded(&items.iter().map(|i| &i[..]).collect::<Vec<_>>()).unwrap_or_default()
 }
 
+/// So many items of one byte, of which the eighth has so many more.
+pub fn ones(n: usize, more: usize) -> Vec<Vec<u8>> {
+    (0..n).map(|k| vec![k as u8; if k == 7 { 1 + more } else { 1 }]).collect()
+}
+
 /// Replies of every kind that is in the domain: data of several lengths, a word, failures without data.
 pub fn replies() -> Vec<Vec<u8>> {
     vec![

@@ -2,6 +2,7 @@
 
 use super::bodies::*;
 use super::bodies_reads::faults;
+use super::damage::put_any;
 use super::path_reads::damaged;
 use super::requests_drawn::number;
 use super::Sink;
@@ -110,12 +111,7 @@ pub fn random_read(rng: &mut Rng, to: &mut Sink) {
     let good = body(&items);
     let mut input = good.clone();
     match rng.below(8) {
-        0 | 1 => {
-            let faults = faults(&good);
-            for _ in 0..1 + rng.below(2) {
-                rng.pick(&faults).put(&mut input);
-            }
-        }
+        0 | 1 => put_any(rng, &faults(&good), &mut input),
         2..=4 if !items.is_empty() => {
             // an offset, close to what it should be
             let at = 2 + 2 * rng.below(items.len() as u64) as usize;

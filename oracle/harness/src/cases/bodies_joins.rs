@@ -2,7 +2,7 @@
 
 use super::bodies::*;
 use super::damage::every_change_by;
-use super::lines::judged;
+use super::lines::{judged, PAST_THE_END};
 use super::path_lists::link;
 use super::Sink;
 use crate::case::bodies::Join;
@@ -123,17 +123,15 @@ fn limits(to: &mut Sink) {
 
 /// Items of one byte each: 20,000 in two halves, 21,844 (the most), one more, and one beside the rest.
 fn many(to: &mut Sink) {
-    let ones = |n: usize| body(&(0..n).map(|k| vec![k as u8]).collect::<Vec<_>>());
+    let each = |n: usize| body(&ones(n, 0));
     for (n, m) in [(10_000, 10_000), (10_922, 10_922), (0, 21_844), (21_843, 1)] {
-        around(to, &ones(n), &ones(m));
+        around(to, &each(n), &each(m));
     }
     for (n, m) in [(10_923, 10_922), (21_844, 1), (1, 21_844), (21_844, 21_844)] {
-        ask_join(to, &ones(n), &ones(m), 70_000);
+        ask_join(to, &each(n), &each(m), 70_000);
     }
     // two of about half, in 65,535 bytes together
-    let half = |n: usize, size: usize| {
-        body(&(0..n).map(|k| vec![k as u8; if k == 7 { size - 3 * n - 1 } else { 1 }]).collect::<Vec<_>>())
-    };
+    let half = |n: usize, size: usize| body(&ones(n, size - 3 * n - 2));
     around(to, &half(9_000, 30_000), &half(11_000, 35_537));
     around(to, &half(9_000, 30_000), &half(11_000, 35_538));
 }
@@ -147,7 +145,7 @@ fn bad_lines(to: &mut Sink) {
     for t in ["34", "3400000000", "340000000000000000", "34000000000000000000000000", "3400000000000000000000000000"] {
         judged(to, t.as_bytes().to_vec());
     }
-    for len in ["01000000", "FFFFFFFF", "FFFFFF7F", "00000080", "FBFFFFFF"] {
+    for len in PAST_THE_END {
         judged(to, format!("34{len}").into_bytes());
         judged(to, format!("3400000000{len}00000000").into_bytes());
     }

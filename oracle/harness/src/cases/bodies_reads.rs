@@ -3,7 +3,7 @@
 
 use super::bodies::*;
 use super::damage::{every_change, every_pair, Fault};
-use super::lines::judged;
+use super::lines::{judged, PAST_THE_END};
 use super::path_lists::{edges, link};
 use super::Sink;
 use crate::case::bodies::Ask;
@@ -175,15 +175,13 @@ fn long(to: &mut Sink) {
     }
 }
 
-/// So many items of one byte, of which the first has more.
-fn ones(n: usize, more: usize) -> Vec<u8> {
-    body(&(0..n).map(|k| vec![k as u8; if k == 0 { 1 + more } else { 1 }]).collect::<Vec<_>>())
-}
-
 /// 20,000 items in 65,535 bytes; 21,844, the most that fit; tables that fill a whole body, and counts whose table's end
 /// is small again in 16 bits.
 fn many(to: &mut Sink) {
-    for good in [ones(20_000, 5_533), ones(21_844, 0), ones(21_844, 1)] {
+    for (n, more) in [(20_000, 5_533), (21_844, 0), (21_844, 1)] {
+        let mut items = ones(n, 0);
+        items[0].resize(1 + more, 0);
+        let good = body(&items);
         let n = count_of(&good);
         ask_at(to, &good, [0, 256, n / 2, n - 2, n - 1, n, 65_536]);
         let mut last = good.clone();
@@ -215,7 +213,7 @@ fn bad_lines(to: &mut Sink) {
         for t in ["", "00", "00000000", "0000000000000000", "000000000000000000000000", "00000000000000000000000000"] {
             judged(to, format!("{op}{t}").into_bytes());
         }
-        for len in ["01000000", "FFFFFFFF", "FFFFFF7F", "00000080", "FBFFFFFF"] {
+        for len in PAST_THE_END {
             judged(to, format!("{op}{len}").into_bytes());
             judged(to, format!("{op}{len}0000000000000000").into_bytes());
         }

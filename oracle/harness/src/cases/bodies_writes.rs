@@ -1,7 +1,7 @@
 //! Operation 30: lengths, limits, rooms, which refusal comes first, and lines that are no case.
 
 use super::bodies::*;
-use super::lines::judged;
+use super::lines::{judged, PAST_THE_END};
 use super::path_lists::{edges, link};
 use super::Sink;
 use crate::case::bodies::Items;
@@ -69,9 +69,8 @@ fn lengths(to: &mut Sink) {
         whole(to, &(0..n).map(|k| link(1 + k % 5, k)).collect::<Vec<_>>(), &[0]);
     }
     for n in 1..=260 {
-        let ones: Vec<Vec<u8>> = (0..n).map(|k| vec![k as u8]).collect();
         put(to, n, &vec![1; n], 2 + 3 * n);
-        ask_ends(to, &body(&ones));
+        ask_ends(to, &body(&ones(n, 0)));
     }
 }
 
@@ -180,7 +179,7 @@ fn bad_lines(to: &mut Sink) {
     for t in ["30", "3000000000", "300000000000000000", "30000000000000000000000000", "3000000000000000000000000000"] {
         judged(to, t.as_bytes().to_vec());
     }
-    for len in ["01000000", "FFFFFFFF", "FFFFFF7F", "00000080", "FBFFFFFF"] {
+    for len in PAST_THE_END {
         judged(to, format!("30{len}").into_bytes());
         judged(to, format!("3000000000{len}00000000").into_bytes());
     }

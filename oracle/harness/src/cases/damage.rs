@@ -1,5 +1,7 @@
 //! Good records with one thing changed, or two.
 
+use crate::rng::Rng;
+
 /// One thing that is wrong with a record.
 #[derive(Clone, Copy)]
 pub enum Fault {
@@ -54,6 +56,13 @@ pub fn every_pair(faults: &[Fault], good: &[u8], mut to: impl FnMut(&[u8])) {
 pub fn some_pairs(faults: &[Fault], good: &[u8], step: usize, mut to: impl FnMut(&[u8])) {
     for i in (0..faults.len()).step_by(step) {
         to(&with_two(good, &faults[i], &faults[(i * 5 + 3) % faults.len()]));
+    }
+}
+
+/// One or two of the faults, by chance.
+pub fn put_any(rng: &mut Rng, faults: &[Fault], d: &mut Vec<u8>) {
+    for _ in 0..1 + rng.below(2) {
+        rng.pick(faults).put(d);
     }
 }
 

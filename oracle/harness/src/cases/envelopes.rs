@@ -1,6 +1,6 @@
 //! Operation 26, the envelope: the judge alone.
 
-use super::damage::{every_change, every_pair, Fault};
+use super::damage::{every_change, every_pair, put_any, Fault};
 use super::lines::judged;
 use super::path_lists::{edges, link};
 use super::path_reads::damaged;
@@ -158,12 +158,7 @@ pub fn random(rng: &mut Rng, to: &mut Sink) {
     let mut wire = good.wire();
     match rng.below(4) {
         0 => {}
-        1 => {
-            let faults = faults(&wire);
-            for _ in 0..1 + rng.below(2) {
-                rng.pick(&faults).put(&mut wire);
-            }
-        }
+        1 => put_any(rng, &faults(&wire), &mut wire),
         _ => wire = damaged(rng, &wire),
     }
     ask(to, &wire);

@@ -15,6 +15,9 @@ use crate::rng::Rng;
 /// Operations that are kept for nothing, so that these cases stay when others land.
 pub const NO_OPERATION: [u8; 12] = [0x00, 0x08, 0x09, 0x0F, 0x16, 0x1F, 0x28, 0x2F, 0x3F, 0x7F, 0x80, 0xFF];
 
+/// Lengths, as digits, that run past the line, and past every memory.
+pub const PAST_THE_END: [&str; 5] = ["01000000", "FFFFFFFF", "FFFFFF7F", "00000080", "FBFFFFFF"];
+
 pub fn judged(to: &mut Sink, line: Vec<u8>) {
     to(Case { line, truth: Truth::Judge });
 }
@@ -113,8 +116,7 @@ pub fn fixed(to: &mut Sink) {
         judged(to, Writer { op: 3, pool: vec![], list: vec![Seg { kind: CLASS, number: 1, start: 0, len: 0 }], room }.line());
         judged(to, Writer { op: 4, pool: vec![], list: vec![], room }.line());
     }
-    // a length that runs past the line, and past every memory
-    for len in ["01000000", "FFFFFFFF", "FFFFFF7F", "00000080", "FBFFFFFF"] {
+    for len in PAST_THE_END {
         for op in 1..=7 {
             judged(to, format!("0{op}{len}").into_bytes());
             judged(to, format!("0{op}{len}00000000").into_bytes());

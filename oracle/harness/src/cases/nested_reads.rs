@@ -2,7 +2,7 @@
 //! nearly those that are opened.
 
 use super::damage::every_change;
-use super::lines::judged;
+use super::lines::{judged, PAST_THE_END};
 use super::nested::*;
 use super::requests::GET;
 use super::Sink;
@@ -166,7 +166,7 @@ fn bad_lines(to: &mut Sink) {
     {
         judged(to, format!("40{t}").into_bytes());
     }
-    for len in ["01000000", "FFFFFFFF", "FFFFFF7F", "00000080", "FBFFFFFF"] {
+    for len in PAST_THE_END {
         judged(to, format!("40{len}").into_bytes());
         judged(to, format!("40{len}0E00").into_bytes());
     }

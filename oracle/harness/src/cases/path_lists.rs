@@ -1,6 +1,6 @@
 //! Operations 01 to 04 in the crate's domain, and what was written given back to the readers.
 
-use super::{ask, read_back, Sink};
+use super::{ask, read_back, written, Sink};
 use crate::ask_crate;
 use crate::case::*;
 use crate::rng::Rng;
@@ -63,7 +63,7 @@ pub fn link(n: usize, salt: usize) -> Vec<u8> {
 /// One segment: its size, and written where the room is exact and one more.
 pub fn single(to: &mut Sink, p: &Plain) {
     let (pool, list) = end_to_end(std::slice::from_ref(p));
-    let size = ask_crate::one(p).and_then(Result::ok).map_or(0, |b| b.len() as u32);
+    let size = written(p).len() as u32;
     ask(to, &Writer { op: 1, pool: pool.clone(), list: list.clone(), room: 0 });
     for room in [size, size + 1] {
         ask(to, &Writer { op: 3, pool: pool.clone(), list: list.clone(), room });
@@ -72,8 +72,7 @@ pub fn single(to: &mut Sink, p: &Plain) {
 
 /// A list: its size, written into each of the rooms (added to its size), and read back.
 fn whole(to: &mut Sink, list: &[Plain], more: &[i64]) {
-    let (pool, segs) = end_to_end(list);
-    over(to, list, (pool, segs), more, true);
+    over(to, list, end_to_end(list), more, true);
 }
 
 /// The same over a pool that was lent, read back or not.
@@ -270,7 +269,7 @@ pub fn random(rng: &mut Rng, to: &mut Sink) {
 pub fn random_segment(rng: &mut Rng, to: &mut Sink) {
     let list = [any_segment(rng)];
     let (pool, segs) = scattered(rng, &list);
-    let size = ask_crate::one(&list[0]).and_then(Result::ok).map_or(0, |b| b.len() as u32);
+    let size = written(&list[0]).len() as u32;
     let op = if rng.once_in(3) { 1 } else { 3 };
     let room = (size + rng.pick(&[0, 0, 0, 1, 2, 30])).saturating_sub(rng.pick(&[0, 0, 0, 0, 1, 2]));
     ask(to, &Writer { op, pool, list: segs, room: if op == 3 { room } else { 0 } });

@@ -1,7 +1,7 @@
 //! Operations 05 to 07 on inputs that no writer made: all short ones, near misses of every form, damaged copies.
 
 use super::path_lists::{any_list, edges, link, small, text};
-use super::{ask_reader, damage, Sink};
+use super::{ask_reader, damage, written, Sink};
 use crate::ask_crate;
 use crate::case::*;
 use crate::rng::Rng;
@@ -53,11 +53,6 @@ pub fn fixed(to: &mut Sink) {
     for p in small().iter().map(written) {
         every_small_damage(&p, |d| all_three(to, d));
     }
-}
-
-/// What the crate writes for a segment of its domain.
-pub fn written(p: &Plain) -> Vec<u8> {
-    ask_crate::one(p).and_then(Result::ok).unwrap_or_default()
 }
 
 /// Every byte changed in four ways, taken out, or doubled; every front of it.

@@ -1,5 +1,6 @@
 //! Replies by chance: of the crate's domain, damaged copies, spoilt ones.
 
+use super::damage::put_any;
 use super::path_reads::damaged;
 use super::replies::*;
 use super::replies_reads::faults;
@@ -133,12 +134,7 @@ pub fn random_read(rng: &mut Rng, to: &mut Sink) {
             input = [vec![rng.byte(), rng.byte(), rng.below(5) as u8, rng.below(3) as u8], rng.bytes(n)].concat();
             input.truncate(n);
         }
-        1 | 2 => {
-            let faults = faults(&input);
-            for _ in 0..1 + rng.below(2) {
-                rng.pick(&faults).put(&mut input);
-            }
-        }
+        1 | 2 => put_any(rng, &faults(&input), &mut input),
         3 => {
             let n = rng.below(4) as usize;
             input.truncate(input.len() - n);

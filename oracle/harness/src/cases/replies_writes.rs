@@ -1,6 +1,6 @@
 //! Operations 23 to 25 and 27: fields, limits, rooms, which refusal comes first, and lines that are no case.
 
-use super::lines::judged;
+use super::lines::{judged, PAST_THE_END};
 use super::path_lists::link;
 use super::replies::*;
 use super::Sink;
@@ -143,7 +143,7 @@ fn bad_lines(to: &mut Sink) {
     {
         judged(to, t.as_bytes().to_vec());
     }
-    for len in ["01000000", "FFFFFFFF", "FFFFFF7F", "00000080", "FBFFFFFF"] {
+    for len in PAST_THE_END {
         for head in ["20", "2100", "2101", "2200", "2201", "26", "24CE3412785678563412"] {
             judged(to, format!("{head}{len}").into_bytes());
             judged(to, format!("{head}{len}00000000").into_bytes());

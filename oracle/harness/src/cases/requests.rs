@@ -28,6 +28,13 @@ pub fn some_open(large: u8) -> Open {
     }
 }
 
+/// A small Forward Open with these connection sizes.
+pub fn sized_open(a: u16, b: u16) -> Head {
+    let mut o = some_open(0);
+    (o.o_t.size, o.t_o.size) = (a, b);
+    Head::Open(o)
+}
+
 pub fn some_close() -> Close {
     Close { prio: 0x03, ticks: 0xFA, serial: 0x1234, vendor: 0x5678, originator: 0x9ABC_DEF0 }
 }
@@ -58,8 +65,7 @@ pub fn heads() -> Vec<Head> {
 
 /// A record written into each of the rooms (added to its size), and what the crate wrote given to the reader.
 pub fn whole(to: &mut Sink, head: &Head, list: &[Plain], more: &[i64]) {
-    let (pool, segs) = end_to_end(list);
-    over(to, head, list, (pool, segs), more, true);
+    over(to, head, list, end_to_end(list), more, true);
 }
 
 /// The same over a pool that was lent, read back or not.

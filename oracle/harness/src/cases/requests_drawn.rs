@@ -4,6 +4,7 @@ use super::path_lists::{any_segment, scattered};
 use super::path_reads::damaged;
 use super::path_refusals::{class, part};
 use super::requests::{ask, ask_default, ask_reader, over};
+use super::requests_reads::written;
 use super::Sink;
 use crate::ask_crate;
 use crate::ask_crate::requests::record;
@@ -85,7 +86,7 @@ fn any_message(rng: &mut Rng) -> Vec<u8> {
         }
         _ => {
             let list = any_path(rng);
-            record(&Head::Message { service, data }, &list).and_then(Result::ok).unwrap_or_default()
+            written(&Head::Message { service, data }, &list)
         }
     }
 }

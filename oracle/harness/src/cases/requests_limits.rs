@@ -1,6 +1,6 @@
 //! What the writers of requests refuse, with which number and which comes first; lines of requests that are no case.
 
-use super::lines::judged;
+use super::lines::{judged, PAST_THE_END};
 use super::path_lists::{link, text};
 use super::path_refusals::{class, part};
 use super::requests::*;
@@ -96,13 +96,8 @@ fn order(to: &mut Sink) {
         [vec![class(1); 127], vec![part(PORT, 9, 999)]].concat(),   // 3 before the segment's 11
         [vec![class(256); 100], vec![part(PORT, 299, 2)]].concat(), // 11 before the path's 3
     ];
-    let over = |a: u16, b: u16| {
-        let mut o = some_open(0);
-        (o.o_t.size, o.t_o.size) = (a, b);
-        Head::Open(o)
-    };
     let mut all = heads();
-    all.extend([over(512, 1), over(1, 512), over(513, 65_535), over(511, 511)]);
+    all.extend([(512, 1), (1, 512), (513, 65_535), (511, 511)].map(|(a, b)| sized_open(a, b)));
     all.extend([some_message(&link(65_534, 1)), some_send(&link(65_536, 1))]);
     for head in all {
         for list in &lists {
@@ -150,7 +145,7 @@ fn bad_lines(to: &mut Sink) {
     for t in ["15", "150", "1500", "15000", "150000", "15F", "15 f3", "14", "1400", "18", "19", "1900", "1A", "1B"] {
         judged(to, t.as_bytes().to_vec());
     }
-    for len in ["01000000", "FFFFFFFF", "FFFFFF7F", "00000080", "FBFFFFFF"] {
+    for len in PAST_THE_END {
         for head in ["1000", "130000", "18", "1900", "1901", "1A", "1B"] {
             judged(to, format!("{head}{len}").into_bytes());
             judged(to, format!("{head}{len}00000000").into_bytes());

@@ -1,5 +1,6 @@
 //! The judge on segments and paths: operations 01 to 07.
 
+use super::reader::Reader;
 use super::{answer, low_first, writer, Fields, Judged};
 
 const MOST_SEGMENTS: usize = 127;
@@ -178,31 +179,31 @@ fn read_one(t: &[u8]) -> Judged<(Seg, usize)> {
     let mut r = Reader { t, at: 0 };
     let code = r.byte()?;
     let s = match code {
-        0x20 | 0x24 | 0x28 | 0x30 => number(logical_kind(code), r.low(1)?),
+        0x20 | 0x24 | 0x28 | 0x30 => number(logical_kind(code), r.number(1)?),
         // the zero after the first byte is a field of its own (DECISIONS 6)
         0x21 | 0x25 | 0x29 | 0x31 => {
-            r.zero()?;
-            number(logical_kind(code - 1), above(255, r.low(2)?)?)
+            r.zeros(1)?;
+            number(logical_kind(code - 1), above(255, r.number(2)?)?)
         }
         0x2A => {
-            r.zero()?;
-            number(Element, above(65_535, r.low(4)?)?)
+            r.zeros(1)?;
+            number(Element, above(65_535, r.number(4)?)?)
         }
         0x91 => {
             let len = u32::from(r.byte()?);
             part(Symbol, 0, &mut r, len)?
         }
         0x00..=0x1F => {
-            // length byte, port, link, pad: the order of DECISIONS 6
+            // length byte, port (high byte first), link, pad: the order of DECISIONS 6
             let len = if code & 0x10 == 0 { 1 } else { link_length(r.byte()?)? };
             let near = u32::from(code & 0x0F);
-            let port = if near < 15 { near } else { above(14, r.high_first()?)? };
+            let port = if near < 15 { near } else { above(14, 256 * u32::from(r.byte()?) + u32::from(r.byte()?))? };
             part(Port, port, &mut r, len)?
         }
         _ => return Err(4),
     };
     if r.at % 2 != 0 {
-        r.zero()?;
+        r.zeros(1)?;
     }
     Ok((s, r.at))
 }
@@ -238,36 +239,6 @@ fn link_length(n: u8) -> Judged<u32> {
 }
 
 fn part(kind: Kind, number: u32, r: &mut Reader, len: u32) -> Judged<Seg> {
-    let start = r.at as u32;
-    r.bytes(len as usize)?;
+    let start = r.part(len as usize)?.start as u32;
     Ok(Seg { kind, number, start, len })
-}
-
-struct Reader<'a> {
-    t: &'a [u8],
-    at: usize,
-}
-
-impl Reader<'_> {
-    fn bytes(&mut self, n: usize) -> Judged<&[u8]> {
-        let b = self.t.get(self.at..self.at + n).ok_or(1)?;
-        self.at += n;
-        Ok(b)
-    }
-    fn byte(&mut self) -> Judged<u8> {
-        Ok(self.bytes(1)?[0])
-    }
-    fn zero(&mut self) -> Judged<()> {
-        if self.byte()? == 0 {
-            Ok(())
-        } else {
-            Err(5)
-        }
-    }
-    fn low(&mut self, n: usize) -> Judged<u32> {
-        Ok(self.bytes(n)?.iter().rev().fold(0, |v, b| v * 256 + u32::from(*b)))
-    }
-    fn high_first(&mut self) -> Judged<u32> {
-        Ok(self.bytes(2)?.iter().fold(0, |v, b| v * 256 + u32::from(*b)))
-    }
 }

@@ -48,6 +48,17 @@ impl<'a> Reader<'a> {
         let p = self.part(len)?;
         Ok(&self.t[p.start..self.at])
     }
+    /// One reserved field.
+    pub fn zeros(&mut self, len: usize) -> Judged<()> {
+        if self.plain(len)?.iter().any(|b| *b != 0) {
+            Err(5)
+        } else {
+            Ok(())
+        }
+    }
+    pub fn byte(&mut self) -> Judged<u8> {
+        Ok(self.plain(1)?[0])
+    }
     pub fn number(&mut self, len: usize) -> Judged<u32> {
         Ok(self.plain(len)?.iter().rev().fold(0, |v, b| v * 256 + u32::from(*b)))
     }

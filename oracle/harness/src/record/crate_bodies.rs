@@ -66,7 +66,7 @@ fn written(s: &mut Script) {
         put(s, &[link(n, 1), vec![1], vec![2, 3]]);
     }
     for n in [84, 85, 127, 128, 256] {
-        s.line(&Items::of(&(0..n).map(|k| vec![k as u8]).collect::<Vec<_>>(), 2 + 3 * n as u32).line());
+        s.line(&Items::of(&ones(n, 0), 2 + 3 * n as u32).line());
     }
 }
 
@@ -109,8 +109,7 @@ fn joined(s: &mut Script) {
         join(s, &body(&[link(n, 1), vec![7]]), &body(&[vec![8], link(m, 2), vec![9]]), 1);
     }
     for (n, m) in [(40, 42), (100, 30), (30, 100), (128, 128)] {
-        let ones = |n: usize| body(&(0..n).map(|k| vec![k as u8]).collect::<Vec<_>>());
-        join(s, &ones(n), &ones(m), 0);
+        join(s, &body(&ones(n, 0)), &body(&ones(m, 0)), 0);
     }
 }
 
@@ -133,8 +132,6 @@ fn drawn(s: &mut Script) {
 /// The few long ones: each line is read by the gate.
 fn big(s: &mut Script) {
     s.group("20,000 items in 65,535 bytes: written, read, the last one; two bodies that are joined to as many");
-    let ones =
-        |n: usize, more: usize| -> Vec<Vec<u8>> { (0..n).map(|k| vec![k as u8; if k == 7 { 1 + more } else { 1 }]).collect() };
     let most = ones(20_000, 5_533);
     s.line(&Items::of(&most, 65_535).line());
     s.line(&Ask::Count.line(&body(&most)));

@@ -17,37 +17,37 @@ pub fn write(s: &mut Script) {
     for (kind, name) in [(CLASS, "class"), (INSTANCE, "instance"), (ATTRIBUTE, "attribute")] {
         s.group(&format!("{name}: around every bit, size and bytes"));
         for n in edges(65_535) {
-            segment(s, &plain(kind, n, b""), 0);
+            segment(s, plain(kind, n, b""));
         }
     }
     s.group("element: around every bit, size and bytes");
     for n in edges(u32::MAX.into()) {
-        segment(s, &plain(ELEMENT, n, b""), 0);
+        segment(s, plain(ELEMENT, n, b""));
     }
     s.group("symbol: lengths, ASCII and letters outside it");
     for len in lengths(255) {
-        segment(s, &plain(SYMBOL, 0, &text(len, len + 1)), 0);
+        segment(s, plain(SYMBOL, 0, &text(len, len + 1)));
     }
     s.group("port: every near one and the first far ones, links of 0 to 3 bytes");
     for port in (0..=17).chain([255, 256, 3_840, 3_855, 65_280, 65_535]) {
         for len in 0..=3 {
-            segment(s, &plain(PORT, port, &link(len, port as usize)), 0);
+            segment(s, plain(PORT, port, &link(len, port as usize)));
         }
     }
     s.group("port: around every bit, one link byte");
     for port in edges(65_535) {
-        segment(s, &plain(PORT, port, &[0xC3]), 0);
+        segment(s, plain(PORT, port, &[0xC3]));
     }
     s.group("link: lengths, for a near and a far port");
     for len in lengths(254).into_iter().filter(|n| *n > 3) {
         for port in [14, 15] {
-            segment(s, &plain(PORT, port, &link(len, len)), 0);
+            segment(s, plain(PORT, port, &link(len, len)));
         }
     }
     s.group("room to spare: what follows the bytes stays as it stood");
     for p in small() {
         for spare in [1, 2, 9] {
-            one(s, 3, &p, spare);
+            list_op(s, 3, std::slice::from_ref(&p), spare);
         }
     }
     s.group("the empty path, and one segment as a path");
@@ -108,14 +108,10 @@ pub fn write(s: &mut Script) {
 }
 
 /// Size and bytes of one segment.
-fn segment(s: &mut Script, p: &Plain, spare: u32) {
-    one(s, 1, p, 0);
-    one(s, 3, p, spare);
-}
-
-fn one(s: &mut Script, op: u8, p: &Plain, spare: u32) {
-    let (pool, list) = end_to_end(std::slice::from_ref(p));
-    put(s, Writer { op, pool, list, room: 0 }, spare);
+fn segment(s: &mut Script, p: Plain) {
+    for op in [1, 3] {
+        list_op(s, op, std::slice::from_ref(&p), 0);
+    }
 }
 
 /// Size and bytes of a list.

@@ -32,8 +32,7 @@ pub fn write(s: &mut Script) {
 
 /// With the exact room and some to spare.
 fn put(s: &mut Script, head: Head, list: &[Plain], spare: u32) {
-    let lent = end_to_end(list);
-    over(s, head, list, lent, spare);
+    over(s, head, list, end_to_end(list), spare);
 }
 
 fn over(s: &mut Script, head: Head, list: &[Plain], (pool, segs): (Vec<u8>, Vec<Seg>), spare: u32) {

@@ -1,7 +1,7 @@
 //! List 2, the envelope: good ones, and what is refused.
 
 use super::Script;
-use crate::case::{reader_line, undigits};
+use crate::case::reader_line;
 use crate::cases::damage::some_pairs;
 use crate::cases::envelopes::{connected, faults, samples, unconnected, Envelope, COUNTED, REPLY};
 
@@ -64,7 +64,7 @@ pub fn write(s: &mut Script) {
         "0200A1000000B20005008E",
         "0200A1000100EEB200",
     ] {
-        s.line(&reader_line(0x26, &undigits(text.as_bytes()).unwrap()));
+        s.line(&reader_line(0x26, &crate::unhex(text)));
     }
     s.group("envelopes: other types, of either item");
     for e in [unconnected(&[], &REPLY), connected(&[], &COUNTED)] {

@@ -4,8 +4,9 @@ use super::Script;
 use crate::case::*;
 use crate::cases::lines::{good_lines, segment_line, NO_OPERATION};
 use crate::cases::path_lists::{link, small, text};
-use crate::cases::path_reads::{every_small_damage, written, KNOWN};
+use crate::cases::path_reads::{every_small_damage, KNOWN};
 use crate::cases::path_refusals::{class, part};
+use crate::cases::written;
 
 pub fn write(s: &mut Script) {
     refusals(s);
@@ -177,7 +178,7 @@ fn readers(s: &mut Script) {
         "2C01",
         "3404",
     ] {
-        let input = undigits(t.as_bytes()).unwrap();
+        let input = crate::unhex(t);
         three(s, &input);
         // behind a good symbol: starts are counted in the whole input
         s.line(&reader_line(5, &[&[0x91, 1, b'T', 0], &input[..]].concat()));

@@ -33,7 +33,7 @@ fn good_inputs(s: &mut Script) {
         (0, "03FA00000000000000003412FF00FFFFFFFF0300000040420000F84540420000F845A303010020022401"),
         (1, "03FA00000000000000003412FF00FFFFFFFF0300000040420000F801004440420000F8010044A303010020022401"),
     ] {
-        s.line(&Record { op: 0x19, large, input: undigits(text.as_bytes()).unwrap() }.line());
+        s.line(&Record { op: 0x19, large, input: crate::unhex(text) }.line());
     }
 }
 
@@ -149,7 +149,7 @@ fn message_sizes(s: &mut Script) {
         "03",
         "",
     ] {
-        s.line(&Record { op: 0x1B, large: 0, input: undigits(text.as_bytes()).unwrap() }.line());
+        s.line(&Record { op: 0x1B, large: 0, input: crate::unhex(text) }.line());
     }
 }
 

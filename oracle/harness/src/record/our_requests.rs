@@ -5,7 +5,7 @@ use crate::case::requests::{default_line, Head, Open, Par, Record, Request};
 use crate::case::*;
 use crate::cases::path_lists::{link, text};
 use crate::cases::path_refusals::{class, part};
-use crate::cases::requests::{heads, some_message, some_open, some_send, GET};
+use crate::cases::requests::{heads, sized_open, some_message, some_open, some_send, GET};
 use crate::cases::requests_fields::short_path;
 use crate::cases::requests_reads::written;
 
@@ -55,7 +55,7 @@ fn limits(s: &mut Script) {
     s.group("requests, 3: small connection size of 512 and more, for each side; document 01's error 4");
     for (a, b) in [(512, 0), (0, 512), (512, 512), (513, 1), (1, 65_535), (1_024, 511), (511, 512)] {
         for room in [40, 39] {
-            put(s, &over(a, b), b"", &short(), room);
+            put(s, &sized_open(a, b), b"", &short(), room);
         }
     }
 }
@@ -64,17 +64,10 @@ fn short() -> Vec<Seg> {
     end_to_end(&short_path()).1
 }
 
-/// A small Forward Open with these connection sizes.
-fn over(a: u16, b: u16) -> Head {
-    let mut o = some_open(0);
-    (o.o_t.size, o.t_o.size) = (a, b);
-    Head::Open(o)
-}
-
 fn order(s: &mut Script) {
     s.group("requests: 11 and 3 in lists, before a connection size (3) and before the room (2)");
     let pool = link(300, 2);
-    for head in heads().iter().step_by(2).chain(&[over(512, 512), heads()[5].clone()]) {
+    for head in heads().iter().step_by(2).chain(&[sized_open(512, 512), heads()[5].clone()]) {
         for list in [
             vec![part(SYMBOL, 301, 0)],                               // 11
             vec![part(PORT, 0, 255)],                                 // 3

@@ -1,11 +1,10 @@
 //! Bodies: the encoder and the reply walk.
-use crate::{out, short, T};
+use crate::{out, T};
 use bytes::Bytes;
 use harness::*;
 use rseip_cip::epath::*;
 use rseip_cip::service::CommonServices;
 use rseip_cip::{MessageReply, MessageRequest};
-use smallvec::SmallVec;
 
 fn item<D: std::fmt::Debug>(r: Result<Option<Result<MessageReply<D>, OracleError>>, String>) -> String {
     match r {
@@ -22,8 +21,7 @@ fn item<D: std::fmt::Debug>(r: Result<Option<Result<MessageReply<D>, OracleError
 pub fn run(t: &mut T) {
     let walk = |b: &[u8]| Capture::oracle_walk(dec(b));
     println!("\n== bodies: encoder");
-    let body =
-        |v: Vec<&'static [u8]>| Capture::oracle_body(v.into_iter().map(Bytes::from_static).collect::<SmallVec<[Bytes; 4]>>());
+    let body = |v: Vec<&'static [u8]>| body_of(v.into_iter().map(Bytes::from_static));
     t.card("join card, first", "[5] 01 00 04 00 AA", out(body(vec![b"\xAA"])));
     t.card("join card, second", "[6] 01 00 04 00 BB CC", out(body(vec![b"\xBB\xCC"])));
     t.card(
@@ -48,21 +46,10 @@ pub fn run(t: &mut T) {
         "call() with no requests: sent, then next()",
         format!("sent {} bytes; {}", cap.sent.len(), item(guard(|| r.next::<u32>()))),
     );
-    t.note("body over 65535: two items of 40000, offsets wrap?", {
-        let b = Capture::oracle_body(SmallVec::<[Bytes; 4]>::from_vec(vec![
-            Bytes::from(vec![1u8; 40000]),
-            Bytes::from(vec![2u8; 40000]),
-            Bytes::from_static(&[3]),
-        ]));
-        match guard(|| bytes_of(&b)) {
-            Ok(v) => short(&v),
-            Err(p) => format!("PANIC {}", p),
-        }
-    });
-
+    let long = [vec![1u8; 40000], vec![2u8; 40000], vec![3]].map(Bytes::from);
+    t.note("body over 65535: two items of 40000, offsets wrap?", out(body_of(long)));
     t.note("items of 65,530 bytes and of 1 (doc: 3): the second offset", {
-        let b =
-            Capture::oracle_body(SmallVec::<[Bytes; 4]>::from_vec(vec![Bytes::from(vec![1; 65_530]), Bytes::from_static(&[2])]));
+        let b = body_of([vec![1; 65_530], vec![2]].map(Bytes::from));
         guard(|| bytes_of(&b)).map_or_else(|p| format!("PANIC {}", p), |v| hex(&v[4..6]))
     });
 

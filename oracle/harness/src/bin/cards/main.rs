@@ -7,7 +7,7 @@ mod recorded;
 mod replies;
 mod requests;
 
-use bytes::{Bytes, BytesMut};
+use bytes::Bytes;
 use harness::*;
 use rseip_cip::epath::*;
 
@@ -45,21 +45,10 @@ pub fn segs(v: Vec<Segment>) -> EPath {
 }
 /// bytes by encode_by_ref, checked against encode (by value) and bytes_count
 pub fn out<E: Encode>(v: E) -> String {
-    match guard(|| {
-        let a = bytes_of(&v);
-        let n = v.bytes_count();
-        let mut b = BytesMut::new();
-        v.encode(&mut b, &mut enc()).unwrap();
-        assert_eq!(a, b.to_vec(), "encode and encode_by_ref differ");
-        (a, n)
-    }) {
-        Ok((a, n)) => {
-            if n != a.len() {
-                format!("{} (bytes_count says {})", short(&a), n)
-            } else {
-                short(&a)
-            }
-        }
+    match both_ways(v) {
+        Ok((a, b, _)) if a[..] != b[..] => format!("{} (by value {})", short(&a), short(&b)),
+        Ok((a, _, n)) if n != a.len() => format!("{} (bytes_count says {})", short(&a), n),
+        Ok((a, ..)) => short(&a),
         Err(p) => format!("PANIC {}", p),
     }
 }

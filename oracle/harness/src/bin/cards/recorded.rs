@@ -7,7 +7,6 @@ use rseip_cip::codec::decode::message_reply::decode_service_and_status;
 use rseip_cip::connection::OpenOptions;
 use rseip_cip::epath::*;
 use rseip_cip::service::CommonServices;
-use smallvec::SmallVec;
 
 /// A segment, by itself and in a path.
 fn segment(s: Segment) -> Option<Vec<u8>> {
@@ -39,10 +38,7 @@ fn items(body: &[u8]) -> Vec<Option<Vec<u8>>> {
 pub fn print() {
     let o = || OpenOptions::default().connection_serial_number(0x1234);
     let two = items(&unhex("02 00 06 00 0E 00 8E 00 01 02 00 00 00 00 8E 00 00 00 00 00 48 42"));
-    let both = Capture::oracle_body(SmallVec::<[Bytes; 4]>::from_vec(vec![
-        Bytes::from_static(b"\xAA"),
-        Bytes::from_static(b"\xBB\xCC"),
-    ]));
+    let both = body_of([&b"\xAA"[..], b"\xBB\xCC"].map(Bytes::from_static));
     let cards = [
         ("port 14 link [5]", segment(port(14, &[5]))),
         ("port 15 link [5]", segment(port(15, &[5]))),

@@ -28,28 +28,7 @@ pub fn run(t: &mut T) {
     t.card("record with F3 is written as it stands", "F3", format!("{:02X}", bytes_of(&raw)[0]));
     for n in [252usize, 254, 256, 258, 300, 510, 512, 514] {
         let p = segs(vec![Segment::Class(1); n / 2]);
-        t.note(
-            &format!("Forward Open, path of {} bytes", n),
-            out(OpenOptions {
-                o_t_connection_id: 0,
-                t_o_connection_id: 0,
-                priority_tick_time: 3,
-                timeout_ticks: 0xFA,
-                connection_serial_number: 0x1234,
-                vendor_id: 0xFF,
-                originator_serial_number: 0xFFFFFFFF,
-                o_t_rpi: 0x4240,
-                t_o_rpi: 0x4240,
-                timeout_multiplier: 3,
-                connection_path: p,
-                o_t_params: Default::default(),
-                t_o_params: Default::default(),
-                transport_direction: Direction::Server,
-                transport_class: TransportClass::Class3,
-                transport_trigger: TriggerType::Application,
-                large_open: false,
-            }),
-        );
+        t.note(&format!("Forward Open, path of {} bytes", n), out(o.clone().connection_path(p)));
     }
     t.note(
         "Forward Close, odd raw path of 3 bytes (raw Bytes, not an EPath)",

@@ -53,7 +53,7 @@ pub fn forward(success: usize, routing: bool, input: &[u8]) -> Judged<Vec<u8>> {
         return Ok([head.fields(), vec![1], fields.to_vec(), data.fields()].concat());
     }
     let connection = r.plain(8)?;
-    let remaining = if routing { r.number(1)? as u8 } else { 0 };
+    let remaining = if routing { r.byte()? } else { 0 };
     Ok([head.fields(), vec![0], connection.to_vec(), vec![u8::from(routing), remaining]].concat())
 }
 

@@ -14,7 +14,7 @@ pub fn message(input: &[u8]) -> Judged<Vec<u8>> {
 /// Service, size in words, path, and the rest is data.
 pub fn message_parts(input: &[u8]) -> Judged<(u8, Part, Part)> {
     let mut r = Reader::new(input)?;
-    let service = r.number(1)? as u8;
+    let service = r.byte()?;
     let size = r.path_size()?;
     let path = r.path(size)?;
     Ok((service, path, r.rest()))
@@ -110,19 +110,11 @@ pub fn send_parts(input: &[u8]) -> Judged<(Vec<u8>, Part, Part)> {
 
 impl Reader<'_> {
     fn priority(&mut self) -> Judged<u8> {
-        let byte = self.number(1)?;
+        let byte = self.byte()?;
         if byte > 15 {
             Err(5)
         } else {
-            Ok(byte as u8)
-        }
-    }
-    /// One reserved field.
-    fn zeros(&mut self, len: usize) -> Judged<()> {
-        if self.plain(len)?.iter().any(|b| *b != 0) {
-            Err(5)
-        } else {
-            Ok(())
+            Ok(byte)
         }
     }
     /// The size byte is a field that stands before the path: over the limit it is 3 whatever follows.
