@@ -11,6 +11,7 @@ use reply::OpenReplyRead;
 use reply_header::ExtendedStatus;
 use reply_header::MessageReply;
 use reply_header::ReplyRead;
+use triads::put_triad;
 
 // Bytes of an answer up to the status, and where the next field begins.
 const HEAD: usize = 6;
@@ -48,16 +49,6 @@ pub(crate) fn said_header(r: ReplyRead, answer: &mut [u8]) -> usize {
         ReplyRead::Found(m) => header(m, answer),
         ReplyRead::Refused(e) => said::refused(e, answer),
     }
-}
-
-// What names a connection.
-fn put_triad(answer: &mut [u8], at: usize, serial: u16, vendor: u16, originator: u32) {
-    if answer.len() <= at {
-        return;
-    }
-    wire_write::put_u16(answer, at, serial);
-    wire_write::put_u16(answer, at + 2, vendor);
-    wire_write::put_u32(answer, at + 4, originator);
 }
 
 fn put_remaining(r: RemainingPathSize, answer: &mut [u8]) {

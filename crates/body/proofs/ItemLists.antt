@@ -5,12 +5,12 @@ use mathlib.Core.List.{List, [], _∷_, _++_, map, append-nil}
 use native.Mathlib.Nat.{add-assoc}
 use native.Mathlib.Omega.{arith}
 use lib.ListN.{length, drop, length-drop, drop-of-length-le}
-use Rattle.wire.proofs.Stores.{part-length, part-split, part-last}
+use Rattle.wire.proofs.Stores.{part-split, part-last}
 use Rattle.body_encode.specs.Bodies.{tableEnd, starts, sumOf, flat}
 use Rattle.body_read.specs.Reads.{countAt, offsetAt}
 use Rattle.body_read.proofs.Accepts.{Accepted}
 use Rattle.body_items.specs.Items.{stopAt, itemAt, bytesIn, itemsFrom, itemsOf}
-use Rattle.body_items.proofs.ItemLaws.{stop-next, stop-last, Span, span}
+use Rattle.body_items.proofs.ItemLaws.{stop-next, stop-last, Span, span, item-length}
 use Rattle.body.specs.Joins.{offsetsFrom, raised}
 
 -- ---- places
@@ -34,17 +34,12 @@ items-length zero s n k = refl
 items-length (suc m) s n k = ap suc (items-length m s n (k + 1))
 
 module _ (s : List ℕ) (n : ℕ) (a : Accepted s n) where
-  pub item-length : (k : ℕ) → k < n → length (bytesIn s (itemAt s n k)) ≡ stopAt s n k - offsetAt s k
-  item-length k h =
-      let w : Span s n a k = span s n a k h in
-      part-length s (offsetAt s k) (stopAt s n k - offsetAt s k) (omega (arith, w .some, w .ends))
-
   pub table-starts : (m k at : ℕ) → m + k ≡ n → (0 < m → at ≡ offsetAt s k) → starts at (map length (itemsFrom m s n k)) ≡ offsetsFrom m s k
   table-starts zero k at e f = refl
   table-starts (suc m) k at e f =
       let w : Span s n a k = span s n a k (omega arith) in
       let here : at ≡ offsetAt s k = f (omega arith) in
-      let l : length (bytesIn s (itemAt s n k)) ≡ stopAt s n k - offsetAt s k = item-length k (omega arith) in
+      let l : length (bytesIn s (itemAt s n k)) ≡ stopAt s n k - offsetAt s k = item-length s n a k (omega arith) in
       let next : 0 < m → at + length (bytesIn s (itemAt s n k)) ≡ offsetAt s (k + 1)
       = λ p. omega (arith, l, here, w .some, stop-next s n k (omega arith)) in
       ap (λ (v : ℕ). v ∷ starts (at + length (bytesIn s (itemAt s n k))) (map length (itemsFrom m s n (k + 1)))) here

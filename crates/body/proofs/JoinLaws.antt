@@ -59,7 +59,7 @@ module _ (a b : List ℕ) (v : Counted) (first : paperCount v ≡ readBody a) wh
 
   pub size-first : (e : Refusal) → v ≡ NotCounted e → refused (number e) ≡ joinSize a b
   unfolding joinSize
-  size-first e h = then-stops (readBody a) (λ m. rest) (number e) (sym first ∙ ap paperCount h)
+  size-first e h = then-stops _ _ (number e) (sym first ∙ ap paperCount h)
 
   module _ (m : ℕ) (h : v ≡ Count m) (w : Counted) (second : paperCount w ≡ readBody b) where
     read-first : readBody a ≡ done m
@@ -68,8 +68,8 @@ module _ (a b : List ℕ) (v : Counted) (first : paperCount v ≡ readBody a) wh
     pub size-second : (e : Refusal) → w ≡ NotCounted e → refused (number e) ≡ joinSize a b
     unfolding joinSize
     size-second e g =
-        then-goes (readBody a) (λ m. rest) m (refused (number e)) read-first
-        (then-stops (readBody b) (λ n. withinLimit maxRecord (length (joinOf a b))) (number e) (sym second ∙ ap paperCount g))
+        then-goes _ _ m (refused (number e)) read-first
+        (then-stops _ _ (number e) (sym second ∙ ap paperCount g))
 
     module _ (n : ℕ) (g : w ≡ Count n) where
       read-second : readBody b ≡ done n
@@ -81,8 +81,8 @@ module _ (a b : List ℕ) (v : Counted) (first : paperCount v ≡ readBody a) wh
       goes : (z : Answer ℕ) → z ≡ withinLimit maxRecord (length a + length b - 2) → z ≡ joinSize a b
       unfolding joinSize
       goes z e =
-          then-goes (readBody a) (λ m. rest) m z read-first
-          (then-goes (readBody b) (λ n. withinLimit maxRecord (length (joinOf a b))) n z read-second
+          then-goes _ _ m z read-first
+          (then-goes _ _ n z read-second
           (e ∙ ap (withinLimit maxRecord) (sym (join-length a b m n (accepted a m read-first) (accepted b n read-second)))))
 
       pub size-over : maxRecord < length a + length b - 2 → refused 3 ≡ joinSize a b
@@ -103,9 +103,9 @@ module _ (a b : List ℕ) (size : ℕ) where
   unfolding joinSize
   join-was h =
       let r : Answer ℕ = andThen (readBody b) (λ n. withinLimit maxRecord (length (joinOf a b))) in
-      let t : Went (readBody a) (λ m. r) size = then-were (readBody a) (λ m. r) size h in
+      let t : Went (readBody a) (λ m. r) size = then-were _ _ size h in
       let u : Went (readBody b) (λ n. withinLimit maxRecord (length (joinOf a b))) size
-      = then-were (readBody b) (λ n. withinLimit maxRecord (length (joinOf a b))) size (t .then) in
+      = then-were _ _ size (t .then) in
       let w = within-was maxRecord (length (joinOf a b)) size (u .then) in
       let p : Accepted a (t .found) = accepted a (t .found) (t .is) in
       let q : Accepted b (u .found) = accepted b (u .found) (u .is) in

@@ -65,7 +65,7 @@ module _ (lent : ℕ) (ns : List ℕ) where
           let e : lent - (left - n) ≡ (lent - left) + n = omega (arith, m .inside) in
           let t : List ℕ = drop (i + 1) ns in
           let g : plus (done n) (itemsSize (left - n) t) ≡ judged (over n left 11 ∷ under n 1 7 ∷ []) (plus (done n) (itemsSize (left - n) t))
-          = sym (all-keep (over n left 11 ∷ under n 1 7 ∷ []) (plus (done n) (itemsSize (left - n) t)) (l, (some, tt))) in
+          = sym (all-keep _ _ (l, (some, tt))) in
           record {
             inside = omega (arith, m .inside);
             rest =
@@ -92,7 +92,7 @@ pub sized : (lent : ℕ) (ns : List ℕ) (n : ℕ) → itemsSize lent ns ≡ don
 unfolding itemsSize
 sized lent [] n h = let e : 0 ≡ n = cc in record { sum = sym e; inside = omega arith; many = omega arith }
 sized lent (m ∷ ns) n h =
-    let w = all-were (over m lent 11 ∷ under m 1 7 ∷ []) (plus (done m) (itemsSize (lent - m) ns)) n h in
+    let w = all-were _ _ n h in
     let l : m ≤ lent = w .0 .0 in
     let s : 1 ≤ m = w .0 .1 .0 in
     let p : Parts (done m) (itemsSize (lent - m) ns) n = plus-parts (done m) (itemsSize (lent - m) ns) n (w .1) in
@@ -105,7 +105,7 @@ module _ (lent : ℕ) (ns : List ℕ) (w : Wrote) (is : paperSize w ≡ itemsSiz
   pub size-refused : (e : Refusal) → w ≡ Refused e → refused (number e) ≡ bodySize lent ns
   unfolding bodySize
   size-refused e h =
-      then-stops (itemsSize lent ns) (λ n. withinLimit maxRecord (tableEnd (length ns) + n)) (number e) (sym is ∙ ap paperSize h)
+      then-stops _ _ (number e) (sym is ∙ ap paperSize h)
 
   module _ (n : ℕ) (h : w ≡ Size n) where
     found : itemsSize lent ns ≡ done n
@@ -113,7 +113,7 @@ module _ (lent : ℕ) (ns : List ℕ) (w : Wrote) (is : paperSize w ≡ itemsSiz
 
     goes : (z : Answer ℕ) → z ≡ withinLimit maxRecord (tableEnd (length ns) + n) → z ≡ bodySize lent ns
     unfolding bodySize
-    goes z e = then-goes (itemsSize lent ns) (λ m. withinLimit maxRecord (tableEnd (length ns) + m)) n z found e
+    goes z e = then-goes _ _ n z found e
 
     pub size-over : maxRecord < n → refused 3 ≡ bodySize lent ns
     size-over l = let k : maxRecord < tableEnd (length ns) + n = omega arith in goes (refused 3) (search rules)
@@ -142,7 +142,7 @@ pub record BodySized (lent : ℕ) (ns : List ℕ) (size : ℕ) : Type 0 where
 pub body-sized : (lent : ℕ) (ns : List ℕ) (size : ℕ) → bodySize lent ns ≡ done size → BodySized lent ns size
 unfolding bodySize
 body-sized lent ns size h =
-    let t : Went (itemsSize lent ns) (λ n. withinLimit maxRecord (tableEnd (length ns) + n)) size = then-were (itemsSize lent ns) _ size h in
+    let t : Went (itemsSize lent ns) (λ n. withinLimit maxRecord (tableEnd (length ns) + n)) size = then-were _ _ size h in
     let n : ℕ = t .found in
     let r : Sized lent ns n = sized lent ns n (t .is) in
     let w = within-was maxRecord (tableEnd (length ns) + n) size (t .then) in

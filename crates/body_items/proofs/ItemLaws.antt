@@ -14,13 +14,14 @@ use Rattle.wire.specs.declared.Counted.{Counted}
 use Rattle.wire.specs.declared.Counted.the-variants.{Count, Refused as NotCounted}
 use Rattle.wire.proofs.Rules.{rules, done-same, all-keep, all-were, then-stops, then-goes, Went, then-were}
 use Rattle.wire.proofs.Numbers.{below-or, value-two}
+use Rattle.wire.proofs.Stores.{part-length}
 use Rattle.connection.specs.Limits.{maxRecord}
 use Rattle.body_encode.specs.Bodies.{tableEnd}
 use Rattle.body_read.specs.Reads.{offsetAt, readBody}
 use Rattle.body_read.proofs.Accepts.{Accepted, accepted}
 use Rattle.body_items.specs.declared.Item.{Item}
 use Rattle.body_items.specs.declared.ItemRead.{ItemRead}
-use Rattle.body_items.specs.Items.{stopAt, itemAt, bodyItem, walkRules, walkItem, paperItem}
+use Rattle.body_items.specs.Items.{stopAt, itemAt, bytesIn, bodyItem, walkRules, walkItem, paperItem}
 
 -- ---- where an item starts
 pub offset-read : (s : List ℕ) (k r : ℕ) → r ≡ getD s (2 + 2 * k) 0 + 256 * getD s (2 + 2 * k + 1) 0 → r ≡ offsetAt s k
@@ -94,7 +95,7 @@ module _ (s : List ℕ) (n k : ℕ) where
             unfolding walkItem
             walk-found q =
                 let j : stopAt s n k ≤ length s = omega (arith, stops) in
-                rw (starts, stops) (sym (all-keep (walkRules s n k) (done (itemAt s n k)) (small, (table, (there, (late, (some, (j, tt))))))))
+                rw (starts, stops) (sym (all-keep _ _ (small, (table, (there, (late, (some, (j, tt))))))))
 
 pub ruleset walk-laws = (walk-limit, walk-short, table, walk-index, walk-outside, walk-early, walk-empty, walk-past, walk-found)
 
@@ -120,6 +121,11 @@ module _ (s : List ℕ) (n : ℕ) (a : Accepted s n) where
       last : n ≤ k + 1 → Span k
       last l = let e = stop-last s n k l in record { behind = behind k h; some = omega (arith, a .inside k h); ends = omega arith }
 
+  pub item-length : (k : ℕ) → k < n → length (bytesIn s (itemAt s n k)) ≡ stopAt s n k - offsetAt s k
+  item-length k h =
+      let w : Span k = span k h in
+      part-length s (offsetAt s k) (stopAt s n k - offsetAt s k) (omega (arith, w .some, w .ends))
+
   -- so a walk's answer is the body's own
   pub walk-same : (k : ℕ) → walkItem s n k ≡ judged (under n (k + 1) 11 ∷ []) (done (itemAt s n k))
   unfolding walkItem
@@ -138,20 +144,20 @@ module _ (s : List ℕ) (n : ℕ) (a : Accepted s n) where
       in-it l =
           let i : Span k = span k l in
           let g : k + 1 ≤ n = omega arith in
-          all-keep (walkRules s n k) (done (itemAt s n k)) (a .small, (a .table, (g, (i .behind, (omega (arith, i .some), (i .ends, tt))))))
-          ∙ sym (all-keep (under n (k + 1) 11 ∷ []) (done (itemAt s n k)) (g, tt))
+          all-keep _ _ (a .small, (a .table, (g, (i .behind, (omega (arith, i .some), (i .ends, tt))))))
+          ∙ sym (all-keep _ _ (g, tt))
 
 -- ---- an item of a body
 module _ (s : List ℕ) (k : ℕ) (w : Counted) (is : paperCount w ≡ readBody s) where
   pub item-refused : (e : Refusal) → w ≡ NotCounted e → refused (number e) ≡ bodyItem s k
   unfolding bodyItem
-  item-refused e h = then-stops (readBody s) (λ n. judged (under n (k + 1) 11 ∷ []) (done (itemAt s n k))) (number e) (sym is ∙ ap paperCount h)
+  item-refused e h = then-stops _ _ (number e) (sym is ∙ ap paperCount h)
 
   pub item-found : (n : ℕ) (r : ItemRead) → w ≡ Count n → paperItem r ≡ walkItem s n k → paperItem r ≡ bodyItem s k
   unfolding bodyItem
   item-found n r h e =
       let c : readBody s ≡ done n = sym is ∙ ap paperCount h in
-      then-goes (readBody s) (λ n. judged (under n (k + 1) 11 ∷ []) (done (itemAt s n k))) n (paperItem r) c (e ∙ walk-same s n (accepted s n c) k)
+      then-goes _ _ n (paperItem r) c (e ∙ walk-same s n (accepted s n c) k)
 
 pub ruleset item-laws = (item-refused, item-found)
 
@@ -159,7 +165,7 @@ pub ruleset item-laws = (item-refused, item-found)
 pub walk-inside : (s : List ℕ) (n k : ℕ) (i : Item) → walkItem s n k ≡ done i → i .start ≤ maxRecord
 unfolding walkItem
 walk-inside s n k i h =
-    let w = all-were (walkRules s n k) (done (itemAt s n k)) i h in
+    let w = all-were _ _ i h in
     let e : itemAt s n k ≡ i = done-same (w .1) in
     omega (arith, w .0 .0, w .0 .1 .1 .1 .1 .0, w .0 .1 .1 .1 .1 .1 .0, ap (λ (x : Item). x .start) e)
 
@@ -173,9 +179,9 @@ pub record ItemOf (s : List ℕ) (k : ℕ) (i : Item) : Type 0 where
 pub item-was : (s : List ℕ) (k : ℕ) (i : Item) → bodyItem s k ≡ done i → ItemOf s k i
 unfolding bodyItem
 item-was s k i h =
-    let t : Went (readBody s) (λ n. judged (under n (k + 1) 11 ∷ []) (done (itemAt s n k))) i = then-were (readBody s) _ i h in
+    let t : Went (readBody s) (λ n. judged (under n (k + 1) 11 ∷ []) (done (itemAt s n k))) i = then-were _ _ i h in
     let n : ℕ = t .found in
-    let w = all-were (under n (k + 1) 11 ∷ []) (done (itemAt s n k)) i (t .then) in
+    let w = all-were _ _ i (t .then) in
     let l : k + 1 ≤ n = w .0 .0 in
     let d : done (itemAt s n k) ≡ done i = w .1 in
     record { n = n; accepted = accepted s n (t .is); there = omega arith; is = cc }

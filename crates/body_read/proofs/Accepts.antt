@@ -98,14 +98,14 @@ table-keep (suc m) s a = (
 pub accepted : (s : List ℕ) (n : ℕ) → readBody s ≡ done n → Accepted s n
 unfolding readBody
 accepted s n h =
-    let w = all-were (over (length s) maxRecord 3 ∷ under (length s) 2 1 ∷ []) (judged (tableRules (countAt s) s) (done (countAt s))) n h in
-    let t = all-were (tableRules (countAt s) s) (done (countAt s)) n (w .1) in
+    let w = all-were _ _ n h in
+    let t = all-were _ _ n (w .1) in
     let e : countAt s ≡ n = done-same (t .1) in
     table-were n s e (w .0 .0) (w .0 .1 .0) (rw e at (t .0))
 
 pub accepts : (s : List ℕ) (n : ℕ) → Accepted s n → readBody s ≡ done n
 unfolding readBody
 accepts s n a =
-    all-keep (over (length s) maxRecord 3 ∷ under (length s) 2 1 ∷ []) (judged (tableRules (countAt s) s) (done (countAt s))) (a .small, (omega (arith, a .table), tt))
+    all-keep _ _ (a .small, (omega (arith, a .table), tt))
     ∙ ap (λ (k : ℕ). judged (tableRules k s) (done k)) (a .count)
-    ∙ all-keep (tableRules n s) (done n) (table-keep n s a)
+    ∙ all-keep _ _ (table-keep n s a)

@@ -128,7 +128,7 @@ module _ (s : List ℕ) where
     module _ (h : 2 ≤ length s) where
       front : (z : Answer ℕ) → z ≡ judged (tableRules (countAt s) s) (done (countAt s)) → z ≡ readBody s
       unfolding readBody
-      front z e = e ∙ sym (all-keep (over (length s) maxRecord 3 ∷ under (length s) 2 1 ∷ []) (judged (tableRules (countAt s) s) (done (countAt s))) (small, (h, tt)))
+      front z e = e ∙ sym (all-keep _ _ (small, (h, tt)))
 
       counted : (n : ℕ) → n ≡ valueOf 2 (drop 0 s) → (z : Answer ℕ) → z ≡ judged (tableRules n s) (done n) → z ≡ readBody s
       counted n is z e = front z (e ∙ ap (λ (k : ℕ). judged (tableRules k s) (done k)) is)

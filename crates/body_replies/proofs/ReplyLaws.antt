@@ -29,14 +29,14 @@ module _ (s : List ℕ) (i : Item) (p : List ℕ) (part-is : p ≡ part s (i .st
   read = is ∙ ap readHeader part-is
 
   pub in-refused : (e : Refusal) → w ≡ Refused e → refused (number e) ≡ replyIn s i
-  in-refused e h = then-stops (readHeader (bytesIn s i)) (λ m. done (shiftedReply (i .start) m)) (number e) (sym read ∙ ap paperReply h)
+  in-refused e h = then-stops _ _ (number e) (sym read ∙ ap paperReply h)
 
   module _ (m : MessageReply) (h : w ≡ Found m) where
     found : readHeader (bytesIn s i) ≡ done m
     found = sym read ∙ ap paperReply h
 
     pub in-found : done (shiftedReply (i .start) m) ≡ replyIn s i
-    in-found = then-goes (readHeader (bytesIn s i)) (λ m. done (shiftedReply (i .start) m)) m (done (shiftedReply (i .start) m)) found refl
+    in-found = then-goes _ _ m (done (shiftedReply (i .start) m)) found refl
 
 -- a header's data starts inside what it was read from, so its place in the body is a small number
 pub in-fits : (at : ℕ) (p : List ℕ) (w : ReplyRead) (m : MessageReply) → at ≤ maxRecord → paperReply w ≡ readHeader p → w ≡ Found m
@@ -50,10 +50,10 @@ pub ruleset in-laws = (in-refused, in-found, in-fits)
 -- ---- an item of a walk or of a body, whichever was asked
 module _ (s : List ℕ) (x : Answer Item) (w : ItemRead) (is : paperItem w ≡ x) where
   pub item-refused : (e : Refusal) → w ≡ NoItem e → refused (number e) ≡ andThen x (replyIn s)
-  item-refused e h = then-stops x (replyIn s) (number e) (sym is ∙ ap paperItem h)
+  item-refused e h = then-stops _ _ (number e) (sym is ∙ ap paperItem h)
 
   pub item-read : (i : Item) (r : ReplyRead) → w ≡ FoundItem i → paperReply r ≡ replyIn s i → paperReply r ≡ andThen x (replyIn s)
-  item-read i r h e = then-goes x (replyIn s) i (paperReply r) (sym is ∙ ap paperItem h) e
+  item-read i r h e = then-goes _ _ i (paperReply r) (sym is ∙ ap paperItem h) e
 
 -- each starts inside a body of at most the limit
 pub walk-within : (s : List ℕ) (n k : ℕ) (w : ItemRead) (i : Item) → paperItem w ≡ walkItem s n k → w ≡ FoundItem i → i .start ≤ maxRecord

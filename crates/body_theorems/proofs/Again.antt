@@ -8,7 +8,7 @@ use lib.Seq.{drop-drop, take-add, take-append-seam, drop-append-seam}
 use Rattle.connection.specs.Limits.{maxRecord}
 use Rattle.wire.specs.Numbers.{Bytes, valueOf, lowFirst}
 use Rattle.wire.specs.Folds.{joined}
-use Rattle.wire.specs.Answers.{done, under, over, plus}
+use Rattle.wire.specs.Answers.{done}
 use Rattle.wire.proofs.Rules.{all-keep, within-is}
 use Rattle.wire.proofs.Numbers.{low-value, bytes-drop}
 use Rattle.body_encode.specs.Bodies.{tableEnd, starts, twoBytes, flat, bodyOf, cut, sumOf, itemsSize, bodySize}
@@ -16,9 +16,9 @@ use Rattle.body_encode.proofs.BodyLaws.{length-flat}
 use Rattle.body_read.specs.Reads.{offsetAt, readBody}
 use Rattle.body_read.proofs.Accepts.{Accepted, accepted}
 use Rattle.body_items.specs.Items.{itemsFrom, itemsOf}
-use Rattle.body_items.proofs.ItemLaws.{Span, span}
+use Rattle.body_items.proofs.ItemLaws.{Span, span, item-length}
 use Rattle.body.specs.Joins.{offsetsFrom}
-use Rattle.body.proofs.ItemLists.{item-length, count-items, items-starts, items-behind, length-items}
+use Rattle.body.proofs.ItemLists.{count-items, items-starts, items-behind, length-items}
 use Rattle.body_theorems.proofs.Written.{Filled}
 
 -- ---- an accepted body's items have a byte each
@@ -74,7 +74,7 @@ sizes-again : (xs : List (List ℕ)) (lent : ℕ) → Filled xs → sumOf (map l
 unfolding itemsSize
 sizes-again [] lent f h = refl
 sizes-again (x ∷ xs) lent f h =
-    all-keep (over (length x) lent 11 ∷ under (length x) 1 7 ∷ []) (plus (done (length x)) (itemsSize (lent - length x) (map length xs))) (omega arith, (omega (arith, f .0), tt))
+    all-keep _ _ (omega arith, (omega (arith, f .0), tt))
     ∙ rw (sizes-again xs (lent - length x) (f .1) (omega arith)) refl
 
 pub record Again (s : List ℕ) (n : ℕ) : Type 0 where

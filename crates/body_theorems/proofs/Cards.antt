@@ -3,15 +3,12 @@ use Prim.Native.Nat.{ℕ}
 use mathlib.Core.Path.{_≡_, refl}
 use mathlib.Core.List.{List, [], _∷_}
 use Rattle.wire.specs.Numbers.{valueOf}
-use Rattle.wire.specs.Answers.{done, refused, breaks, numberOf, judged}
+use Rattle.wire.specs.Answers.{done, refused, breaks, judged}
 use Rattle.reply_header.specs.Headers.{readHeader}
 use Rattle.reply_header.specs.declared.ExtendedStatus.the-variants.{Absent}
-use Rattle.body_encode.specs.Bodies.{bodyOf}
 use Rattle.body_read.specs.Reads.{readBody}
-use Rattle.body_items.specs.Items.{bodyItem, itemsOf}
+use Rattle.body_items.specs.Items.{bodyItem}
 use Rattle.body_replies.specs.Replies.{bodyReply}
-use Rattle.body.specs.Joins.{joinOf, joinSize}
-use Rattle.body_theorems.proofs.Joins.{join}
 use Rattle.body_theorems.proofs.Replies.{tells}
 
 -- an item with two words of extended status before one that is read
@@ -19,14 +16,10 @@ abbrev pub twoWords : List ℕ
 twoWords = 2 ∷ 0 ∷ 6 ∷ 0 ∷ 0xE ∷ 0 ∷ 0x8E ∷ 0 ∷ 1 ∷ 2 ∷ 0 ∷ 0 ∷ 0 ∷ 0 ∷ 0x8E ∷ 0 ∷ 0 ∷ 0 ∷ 0 ∷ 0 ∷ 0x48 ∷ 0x42 ∷ []
 
 pub card-two-words-first : bodyReply twoWords 0 ≡ refused 6
-unfolding bodyItem readBody readHeader judged breaks numberOf valueOf
+unfolding bodyItem readBody readHeader judged breaks valueOf
 card-two-words-first = refl
 
 pub card-two-words-second : tells twoWords (bodyReply twoWords 1)
     ≡ done (record { service = 0x8E; status = record { general = 0; extended = Absent }; bytes = 0 ∷ 0 ∷ 0x48 ∷ 0x42 ∷ [] })
-unfolding bodyItem readBody readHeader judged breaks numberOf valueOf
+unfolding bodyItem readBody readHeader judged breaks valueOf
 card-two-words-second = refl
-
-pub card-join : join (1 ∷ 0 ∷ 4 ∷ 0 ∷ 0xAA ∷ []) (1 ∷ 0 ∷ 4 ∷ 0 ∷ 0xBB ∷ 0xCC ∷ []) ≡ done (2 ∷ 0 ∷ 6 ∷ 0 ∷ 7 ∷ 0 ∷ 0xAA ∷ 0xBB ∷ 0xCC ∷ [])
-unfolding joinSize joinOf bodyOf itemsOf readBody judged breaks valueOf
-card-join = refl

@@ -5,14 +5,13 @@ use mathlib.Core.Path.{_≡_, refl, sym, ap, _∙_}
 use mathlib.Core.List.{List, [], _∷_, _++_, append-assoc, append-nil}
 use mathlib.Core.Logic.{⊎-elim}
 use native.Mathlib.Omega.{arith}
-use lib.ListN.{length, length-append}
+use lib.ListN.{length}
 use Rattle.wire.specs.Numbers.{Bytes}
 use Rattle.wire.specs.Answers.{Answer, done, refused, andThen, withinLimit}
 use Rattle.wire.proofs.Rules.{rules, then-done, within-is}
 use Rattle.wire.proofs.Numbers.{below-or}
-use Rattle.wire.proofs.Folds.{joined-append}
 use Rattle.connection.specs.Limits.{maxRecord}
-use Rattle.body_encode.specs.Bodies.{flat, bodyOf}
+use Rattle.body_encode.specs.Bodies.{bodyOf}
 use Rattle.body_encode.proofs.BodyLaws.{length-body}
 use Rattle.body_read.specs.Reads.{readBody}
 use Rattle.body_read.proofs.Accepts.{accepted}
@@ -60,18 +59,12 @@ module _ (a b : List ℕ) (m n : ℕ) (first : readBody a ≡ done m) (second : 
   unfolding joinOf
   join-reads l = read-of-written (itemsOf a ++ itemsOf b) (filled-append (itemsOf a) (itemsOf b) (items-filled a m first) (items-filled b n second)) (omega (arith, long))
 
+  -- what is 3 behind the joined body is 3, whether the two fit or not
+  over-then : (f : List ℕ → Answer (List ℕ)) → (length a + length b ≤ maxRecord + 2 → f (joinOf a b) ≡ refused 3) → andThen (join a b) f ≡ refused 3
+  over-then f k = ⊎-elim (λ g. rw (join-over g) refl) (λ g. then-done _ _ (joinOf a b) (join-is g) ∙ k g) (below-or (maxRecord + 2) (length a + length b))
+
 -- ---- the join of two lists' bodies is the body of the lists end to end
 module _ (xs ys : List (List ℕ)) (fx : Filled xs) (fy : Filled ys) where
-  two-bodies : length (bodyOf (xs ++ ys)) + 2 ≡ length (bodyOf xs) + length (bodyOf ys)
-  two-bodies = omega (
-    arith,
-    length-body (xs ++ ys),
-    length-body xs,
-    length-body ys,
-    length-append xs ys,
-    ap length (joined-append (λ (x : List ℕ). x) xs ys) ∙ length-append (flat xs) (flat ys),
-  )
-
   pub join-of-bodies : length (bodyOf xs) + length (bodyOf ys) ≤ maxRecord + 2 → join (bodyOf xs) (bodyOf ys) ≡ done (bodyOf (xs ++ ys))
   unfolding joinOf
   join-of-bodies l =
@@ -110,11 +103,11 @@ join-grouping a b c l m n ra rb rc = ⊎-elim (λ h. fits h) (λ h. over-it h) (
         let hbc : length b + length c ≤ maxRecord + 2 = omega (arith, la) in
         let p : readBody (joinOf a b) ≡ done (length (itemsOf a ++ itemsOf b)) = join-reads a b l m ra rb hab in
         let q : readBody (joinOf b c) ≡ done (length (itemsOf b ++ itemsOf c)) = join-reads b c m n rb rc hbc in
-        then-done (join a b) (λ p. join p c) (joinOf a b) (join-is a b l m ra rb hab)
+        then-done _ _ (joinOf a b) (join-is a b l m ra rb hab)
         ∙ join-is (joinOf a b) c (length (itemsOf a ++ itemsOf b)) n p rc (omega (arith, left-long, la, lb))
         ∙ ap done (regroup hab hbc)
         ∙ sym (join-is a (joinOf b c) l (length (itemsOf b ++ itemsOf c)) ra q (omega (arith, right-long, lb, lc)))
-        ∙ sym (then-done (join b c) (λ q. join a q) (joinOf b c) (join-is b c m n rb rc hbc))
+        ∙ sym (then-done _ _ (joinOf b c) (join-is b c m n rb rc hbc))
       where
         regroup : length a + length b ≤ maxRecord + 2 → length b + length c ≤ maxRecord + 2 → joinOf (joinOf a b) c ≡ joinOf a (joinOf b c)
         regroup hab hbc =
@@ -123,20 +116,10 @@ join-grouping a b c l m n ra rb rc = ⊎-elim (λ h. fits h) (λ h. over-it h) (
             ∙ ap (λ (xs : List (List ℕ)). bodyOf (itemsOf a ++ xs)) (sym (join-items b c m n rb rc hbc))
 
     over-left : maxRecord + 5 ≤ length a + length b + length c → andThen (join a b) (λ p. join p c) ≡ refused 3
-    over-left h = ⊎-elim
-        (λ g. rw (join-over a b l m ra rb g) refl)
-        (λ g.
-        then-done (join a b) (λ p. join p c) (joinOf a b) (join-is a b l m ra rb g)
-        ∙ join-over (joinOf a b) c (length (itemsOf a ++ itemsOf b)) n (join-reads a b l m ra rb g) rc (omega (arith, left-long, la, lb)))
-        (below-or (maxRecord + 2) (length a + length b))
+    over-left h = over-then a b l m ra rb (λ p. join p c) (λ g. join-over (joinOf a b) c (length (itemsOf a ++ itemsOf b)) n (join-reads a b l m ra rb g) rc (omega (arith, left-long, la, lb)))
 
     over-right : maxRecord + 5 ≤ length a + length b + length c → andThen (join b c) (λ q. join a q) ≡ refused 3
-    over-right h = ⊎-elim
-        (λ g. rw (join-over b c m n rb rc g) refl)
-        (λ g.
-        then-done (join b c) (λ q. join a q) (joinOf b c) (join-is b c m n rb rc g)
-        ∙ join-over a (joinOf b c) l (length (itemsOf b ++ itemsOf c)) ra (join-reads b c m n rb rc g) (omega (arith, right-long, lb, lc)))
-        (below-or (maxRecord + 2) (length b + length c))
+    over-right h = over-then b c m n rb rc (λ q. join a q) (λ g. join-over a (joinOf b c) l (length (itemsOf b ++ itemsOf c)) ra (join-reads b c m n rb rc g) (omega (arith, right-long, lb, lc)))
 
     over-it : maxRecord + 5 ≤ length a + length b + length c → andThen (join a b) (λ p. join p c) ≡ andThen (join b c) (λ q. join a q)
     over-it h = over-left h ∙ sym (over-right h)

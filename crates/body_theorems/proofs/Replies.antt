@@ -69,7 +69,7 @@ inside s k i h =
 -- the reply at k is the header of item k's bytes
 pub reply-is-header : (s : List ℕ) (k : ℕ) (i : Item) → bodyItem s k ≡ done i → tells s (bodyReply s k) ≡ tells (bytesIn s i) (readHeader (bytesIn s i))
 reply-is-header s k i h =
-    ap (tells s) (then-done (bodyItem s k) (replyIn s) i h) ∙ in-item s i (readHeader (bytesIn s i)) refl (inside s k i h)
+    ap (tells s) (then-done _ _ i h) ∙ in-item s i (readHeader (bytesIn s i)) refl (inside s k i h)
 
 -- two bodies that agree on an item agree on what its reply says, whatever else they hold and wherever the item stands
 pub reply-alone : (s t : List ℕ) (k l : ℕ) (i j : Item) → bodyItem s k ≡ done i → bodyItem t l ≡ done j → bytesIn s i ≡ bytesIn t j

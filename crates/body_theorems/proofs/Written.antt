@@ -11,8 +11,8 @@ use lib.Seq.{drop-cons, drop-at, length-take-le}
 use Rattle.wire.specs.Numbers.{valueOf, lowFirst}
 use Rattle.wire.specs.Parts.{part}
 use Rattle.wire.specs.Folds.{joined}
-use Rattle.wire.specs.Answers.{done, under, over, plus, withinLimit}
-use Rattle.wire.proofs.Rules.{all-keep, all-were, Went, then-were}
+use Rattle.wire.specs.Answers.{done}
+use Rattle.wire.proofs.Rules.{all-keep, all-were, then-were}
 use Rattle.wire.proofs.Answers.{Parts, plus-parts}
 use Rattle.wire.proofs.Numbers.{value-low, low-length}
 use Rattle.wire.proofs.Stores.{past-part, part-front}
@@ -101,14 +101,15 @@ module _ (xs : List (List ℕ)) (full : Filled xs) (small : length (bodyOf xs) �
     rest : Rest (bodyOf xs) j place (drop j xs)
     left : Filled (drop j xs)
 
+  here : (j at : ℕ) → j < length xs → Rest (bodyOf xs) j at (drop j xs) → Next (bodyOf xs) j at (getD xs j []) (drop (suc j) xs)
+  here j at h r = next (bodyOf xs) j at (getD xs j []) (drop (suc j) xs) small (rw (drop-cons xs j [] h) at r)
+
   at-item : (j : ℕ) → j ≤ length xs → At j
   at-item zero h = record { place = tableEnd (length xs); rest = at-first; left = full }
   at-item (suc j) h =
       let w : At j = at-item j (omega arith) in
-      let d : drop j xs ≡ getD xs j [] ∷ drop (suc j) xs = drop-cons xs j [] (omega arith) in
-      let x : Next (bodyOf xs) j (w .place) (getD xs j []) (drop (suc j) xs) = next (bodyOf xs) j (w .place) (getD xs j []) (drop (suc j) xs) small (rw d at (w .rest)) in
-      let f : Filled (getD xs j [] ∷ drop (suc j) xs) = rw d at (w .left) in
-      record { place = w .place + length (getD xs j []); rest = rw (add-one j) at (x .after); left = f .1 }
+      let f : Filled (getD xs j [] ∷ drop (suc j) xs) = rw (drop-cons xs j [] h) at (w .left) in
+      record { place = w .place + length (getD xs j []); rest = rw (add-one j) at (here j (w .place) h (w .rest) .after); left = f .1 }
 
   pub record Stands (j : ℕ) : Type 0 where
     pub place : ℕ
@@ -120,22 +121,15 @@ module _ (xs : List (List ℕ)) (full : Filled xs) (small : length (bodyOf xs) �
   pub stands : (j : ℕ) → j < length xs → Stands j
   stands j h =
       let w : At j = at-item j (omega arith) in
-      let d : drop j xs ≡ getD xs j [] ∷ drop (suc j) xs = drop-cons xs j [] h in
-      let r : Rest (bodyOf xs) j (w .place) (getD xs j [] ∷ drop (suc j) xs) = rw d at (w .rest) in
-      let x : Next (bodyOf xs) j (w .place) (getD xs j []) (drop (suc j) xs) = next (bodyOf xs) j (w .place) (getD xs j []) (drop (suc j) xs) small r in
-      let f : Filled (getD xs j [] ∷ drop (suc j) xs) = rw d at (w .left) in
+      let x = here j (w .place) h (w .rest) in
+      let f : Filled (getD xs j [] ∷ drop (suc j) xs) = rw (drop-cons xs j [] h) at (w .left) in
       record {
         place = w .place;
         start = x .start;
         some = f .0;
         ends = omega (arith, x .after .whole);
-        after = λ l. behind (w .place + length (getD xs j [])) (x .after) l;
+        after = λ l. rw (add-one j) (here (suc j) (w .place + length (getD xs j [])) (omega arith) (rw (add-one j) at (x .after)) .start);
       }
-    where
-      behind : (at : ℕ) → Rest (bodyOf xs) (j + 1) at (drop (suc j) xs) → j + 1 < length xs → offsetAt (bodyOf xs) (j + 1) ≡ at
-      behind at r l =
-          let d : drop (suc j) xs ≡ getD xs (suc j) [] ∷ drop (suc (suc j)) xs = drop-cons xs (suc j) [] (omega arith) in
-          next (bodyOf xs) (j + 1) at (getD xs (suc j) []) (drop (suc (suc j)) xs) small (rw d at r) .start
 
   accepted-body : Accepted (bodyOf xs) (length xs)
   accepted-body = record {
@@ -143,7 +137,7 @@ module _ (xs : List (List ℕ)) (full : Filled xs) (small : length (bodyOf xs) �
     small = small;
     table = omega (arith, length-body xs);
     none = λ z. none xs z;
-    first = λ p. at-first-start p;
+    first = λ p. here 0 (tableEnd (length xs)) p at-first .start;
     rises = λ k l. let w : Stands k = stands k (omega arith) in omega (arith, w .start, w .some, w .after l);
     inside = λ k l. let w : Stands k = stands k l in omega (arith, w .start, w .some, w .ends);
   }
@@ -151,11 +145,6 @@ module _ (xs : List (List ℕ)) (full : Filled xs) (small : length (bodyOf xs) �
       none : (zs : List (List ℕ)) → length zs ≡ 0 → length (bodyOf zs) ≡ 2
       none [] z = length-body []
       none (x ∷ zs) z = absurd (omega arith)
-
-      at-first-start : 0 < length xs → offsetAt (bodyOf xs) 0 ≡ tableEnd (length xs)
-      at-first-start p =
-          let d : xs ≡ getD xs 0 [] ∷ drop 1 xs = drop-cons xs 0 [] p in
-          next (bodyOf xs) 0 (tableEnd (length xs)) (getD xs 0 []) (drop 1 xs) small (subst (λ (l : List (List ℕ)). Rest (bodyOf xs) 0 (tableEnd (length xs)) l) d at-first) .start
 
   -- ---- so the reader gives the number of items, and the items
 
@@ -188,7 +177,7 @@ handed s n k h l =
     let g : k + 1 ≤ n = omega arith in
     record {
       item = itemAt s n k;
-      found = rw h (all-keep (under n (k + 1) 11 ∷ []) (done (itemAt s n k)) (g, tt));
+      found = rw h (all-keep _ _ (g, tt));
       is = rw c (sym (item-in-list n s n 0 k l ∙ ap (λ (i : ℕ). bytesIn s (itemAt s n i)) (zero-add k)));
     }
 
@@ -208,7 +197,7 @@ pub cut-filled : (lent : ℕ) (ns s : List ℕ) (n : ℕ) → lent ≡ length s 
 unfolding itemsSize
 cut-filled lent [] s n e h = tt
 cut-filled lent (m ∷ ns) s n e h =
-    let w = all-were (over m lent 11 ∷ under m 1 7 ∷ []) (plus (done m) (itemsSize (lent - m) ns)) n h in
+    let w = all-were _ _ n h in
     let l : m ≤ lent = w .0 .0 in
     let o : 1 ≤ m = w .0 .1 .0 in
     let p : Parts (done m) (itemsSize (lent - m) ns) n = plus-parts (done m) (itemsSize (lent - m) ns) n (w .1) in
@@ -222,7 +211,7 @@ pub record Back (s ns : List ℕ) : Type 0 where
 pub written-reads-back : (s ns : List ℕ) (size : ℕ) → bodySize (length s) ns ≡ done size → Back s ns
 unfolding bodySize
 written-reads-back s ns size h =
-    let t : Went (itemsSize (length s) ns) (λ n. withinLimit maxRecord (tableEnd (length ns) + n)) size = then-were (itemsSize (length s) ns) _ size h in
+    let t = then-were _ _ size h in
     let b : BodySized (length s) ns size = body-sized (length s) ns size h in
     let f : Filled (cut ns s) = cut-filled (length s) ns s (t .found) refl (t .is) in
     let c : map length (cut ns s) ≡ ns = cut-lengths ns s (b .inside) in

@@ -8,7 +8,7 @@ use lib.ListN.{length, getD}
 use lib.Dec.{eqb}
 use borrow.Author.Tests.{eqb-true}
 use Rattle.wire.specs.Numbers.{valueOf}
-use Rattle.wire.specs.Answers.{Answer, done, refused, breaks, numberOf, judged}
+use Rattle.wire.specs.Answers.{Answer, done, refused, breaks, judged}
 use Rattle.epath_sizes.specs.Segments.{padded}
 use Rattle.epath_sizes.specs.Sizes.{segmentSize}
 use Rattle.epath_segment.specs.Reads.{formOf, formIn, readWide, readSeg}
@@ -56,7 +56,7 @@ each (c ∷ cs) none h k l = go (right c) refl (λ (g : every cs ≡ true) (n : 
 -- ---- document 01's table
 
 all-right : every cards ≡ true
-unfolding segmentSize padded checkPath walk readSeg readWide formOf formIn readHeader joinSize joinOf bodyOf itemsOf readBody sameBytes judged breaks numberOf valueOf
+unfolding segmentSize padded checkPath walk readSeg readWide formOf formIn readHeader joinSize joinOf bodyOf itemsOf readBody sameBytes judged breaks valueOf
 all-right = refl
 
 pub each-card : (none : Card) (k : ℕ) → k < length cards → True (getD cards k none)

@@ -41,21 +41,19 @@ itemRules kind s at =
 unfoldable pub itemLength : ℕ → List ℕ → ℕ → Answer ℕ
 itemLength kind s at = judged (itemRules kind s at) (done (valueOf 2 (drop (at + 2) s)))
 
--- a null address of a bytes, and n bytes of data
-unfoldable pub unconnectedAt : List ℕ → Answer Held
-unconnectedAt s =
-    andThen (itemLength nullAddress s 2) (λ a.
-    andThen (itemLength unconnectedData s (6 + a)) (λ n.
-    judged (over (length s) (10 + a + n) 8 ∷ [])
-    (done (unconnected (10 + a) n))))
+-- an address item of a type, behind it an item of another, and then what there is to say of their a and n bytes
+unfoldable pub itemsAt : ℕ → ℕ → (ℕ → ℕ → Answer Held) → List ℕ → Answer Held
+itemsAt address kind f s = andThen (itemLength address s 2) (λ a. andThen (itemLength kind s (6 + a)) (λ n. f a n))
 
--- a connected address of a bytes, and n bytes: a 16-bit count, and data
-unfoldable pub connectedAt : List ℕ → Answer Held
+-- a null address, and data
+abbrev pub unconnectedAt : List ℕ → Answer Held
+unconnectedAt s = itemsAt nullAddress unconnectedData (λ a n. judged (over (length s) (10 + a + n) 8 ∷ []) (done (unconnected (10 + a) n))) s
+
+-- a connected address, and data behind its 16-bit count
+abbrev pub connectedAt : List ℕ → Answer Held
 connectedAt s =
-    andThen (itemLength connectedAddress s 2) (λ a.
-    andThen (itemLength connectedData s (6 + a)) (λ n.
-    judged (under n 2 1 ∷ over (length s) (10 + a + n) 8 ∷ [])
-    (done (connected (valueOf 2 (drop (10 + a) s)) (10 + a + 2) (n - 2)))))
+    itemsAt connectedAddress connectedData (λ a n.
+    judged (under n 2 1 ∷ over (length s) (10 + a + n) 8 ∷ []) (done (connected (valueOf 2 (drop (10 + a) s)) (10 + a + 2) (n - 2)))) s
 
 -- two items, and the first one's type says which form
 abbrev pub countRules : List ℕ → List Rule

@@ -26,7 +26,7 @@ module _ {A : Type 0} (rs : List Rule) (y : Answer A) (r : Judged) (is : paperJu
   kept-stops e h = sym (same-refusal rs tt y (number e) (sym is ∙ ap paperJudged h))
 
   pub kept-goes : (z : Answer A) → r ≡ Kept → z ≡ y → z ≡ judged rs y
-  kept-goes z h e = e ∙ sym (all-keep rs y (all-were rs (done tt) tt (sym is ∙ ap paperJudged h) .0))
+  kept-goes z h e = e ∙ sym (all-keep rs y (all-were _ _ tt (sym is ∙ ap paperJudged h) .0))
 
 -- ---- the first byte
 module _ (s : List ℕ) where
@@ -44,6 +44,29 @@ module _ (s : List ℕ) where
     first-kept f = let k : getD s 0 0 ≤ mostTicks = omega arith in search rules
 
 pub ruleset first-laws = (first-limit, first-short, first-form, first-kept)
+
+-- ---- backwards: a size byte that was read, and a path that was judged
+
+pub record SizeWas (s : List ℕ) (at len : ℕ) : Type 0 where
+  pub here : at + 1 ≤ length s
+  pub is : len ≡ 2 * getD s at 0
+  pub short : len ≤ maxPath
+
+pub size-was : (s : List ℕ) (at len : ℕ) → pathBytes s at ≡ done len → SizeWas s at len
+unfolding pathBytes
+size-was s at len h =
+    let u = all-were _ _ len h in
+    let f = done-same (u .1) in
+    record { here = u .0 .0; is = sym f; short = rw f at (u .0 .1 .0) }
+
+pub record PathWas (s : List ℕ) (at len : ℕ) : Type 0 where
+  pub here : at + len ≤ length s
+  pub count : ℕ
+  pub checked : checkPath (part s at len) ≡ done count
+
+pub path-was : (s : List ℕ) (at len n : ℕ) → pathAt s at len ≡ done n → PathWas s at len
+unfolding pathAt
+path-was s at len n h = let u = all-were _ _ n h in record { here = u .0 .0; count = n; checked = u .1 }
 
 -- ---- the path
 module _ (s : List ℕ) (at : ℕ) where
@@ -67,12 +90,10 @@ module _ (s : List ℕ) (at : ℕ) where
         search (rules, there)
 
   pub size-most : (r : Counted) (len : ℕ) → paperCount r ≡ pathBytes s at → r ≡ Count len → len ≤ maxPath
-  unfolding pathBytes
-  size-most r len is h = let w = all-were _ _ len (sym is ∙ ap paperCount h) in omega (arith, w .0 .1 .0, done-same (w .1))
+  size-most r len is h = size-was s at len (sym is ∙ ap paperCount h) .short
 
   pub size-inside : (r : Counted) (len : ℕ) → paperCount r ≡ pathBytes s at → r ≡ Count len → at + 1 ≤ length s
-  unfolding pathBytes
-  size-inside r len is h = all-were _ _ len (sym is ∙ ap paperCount h) .0 .0
+  size-inside r len is h = size-was s at len (sym is ∙ ap paperCount h) .here
 
   -- so what lies one and two places behind it can be named
   module _ (r : Counted) (len : ℕ) (is : paperCount r ≡ pathBytes s at) (h : r ≡ Count len) (room : length s * 1 < 2 ^ 63) where
@@ -162,7 +183,6 @@ module _ (s : List ℕ) where
   message-begun r len is h = size-inside s 1 r len is h
 
   pub message-inside : (len n : ℕ) (q : Counted) → paperCount q ≡ pathAt s 2 len → q ≡ Count n → 2 + len ≤ length s
-  unfolding pathAt
-  message-inside len n q of f = all-were _ _ n (sym of ∙ ap paperCount f) .0 .0
+  message-inside len n q of f = path-was s 2 len n (sym of ∙ ap paperCount f) .here
 
 pub ruleset message-laws = (message-record, message-limit, message-size, message-path, message-found, message-begun, message-inside, size-most)

@@ -1,23 +1,24 @@
 -- What is held is smaller than what holds it, so no message has more than a row for every four bytes (`rowBytes`). Assumes nothing.
-use Prim.Native.Nat.{ℕ, zero, suc, _+_, _*_, _-_, _≤_, _<_}
+use Prim.Native.Nat.{ℕ, zero, suc, _+_, _*_, _-_, _≤_}
 use mathlib.Core.Path.{_≡_, refl, sym, ap}
 use mathlib.Core.List.{List, [], _∷_}
 use native.Mathlib.Omega.{arith}
-use lib.ListN.{length, getD, drop, length-append}
+use lib.ListN.{length, drop, length-append}
 use Rattle.wire.specs.Parts.{part}
 use Rattle.wire.specs.Numbers.{valueOf}
-use Rattle.wire.specs.Answers.{Answer, done, andThen, under, over, judged}
+use Rattle.wire.specs.Answers.{Answer, done}
 use Rattle.wire.proofs.Rules.{never, done-same, all-were, Went, then-were}
 use Rattle.wire.proofs.Stores.{part-length}
-use Rattle.connection.specs.Limits.{maxPath, maxRecord}
+use Rattle.connection.specs.Limits.{maxRecord}
 use Rattle.connection.specs.declared.UnconnectedSend.{UnconnectedSend}
 use Rattle.message_read.specs.declared.MessageRequest.{MessageRequest}
-use Rattle.message_read.specs.Reads.{firstRules, pathBytes, pathAt, paddedRouteAt, messageAt, readMessage}
-use Rattle.request.specs.Reads.{Sent, sent, sendAt, messageEnd, messageRules, sendBehind, readSend}
+use Rattle.message_read.proofs.ReadLaws.{size-was, path-was}
+use Rattle.message_read.specs.Reads.{pathBytes, pathAt, paddedRouteAt, messageAt, readMessage}
+use Rattle.request.specs.Reads.{Sent, sent, messageEnd, sendBehind, readSend}
 use Rattle.body_read.specs.Reads.{offsetAt, readBody}
 use Rattle.body_read.proofs.Accepts.{Accepted, accepted}
-use Rattle.body_items.specs.Items.{stopAt, itemsFrom, itemsOf}
-use Rattle.body_items.proofs.ItemLaws.{stop-next, stop-last, Span, span}
+use Rattle.body_items.specs.Items.{itemsFrom, itemsOf}
+use Rattle.body_items.proofs.ItemLaws.{stop-next, stop-last, span, item-length}
 use Rattle.nested.specs.declared.kinds.Kind.{Kind}
 use Rattle.nested.specs.declared.kinds.Kind.the-variants.{Plain, Packet, Send}
 use Rattle.nested.proofs.Order.{Apart, apart, OneLevel, one-level}
@@ -33,29 +34,28 @@ pub record Inside (s : List ℕ) (m : MessageRequest) : Type 0 where
   pub held : length (part s (m .«data_start») (m .«data_len»)) + 2 ≤ length s
 
 pub inside : (s : List ℕ) (m : MessageRequest) → readMessage s ≡ done m → Inside s m
-unfolding readMessage pathBytes pathAt
+unfolding readMessage
 inside s m h =
-    let w = all-were (over (length s) maxRecord 3 ∷ []) (andThen (pathBytes s 1) (λ len. andThen (pathAt s 2 len) (λ n. done (messageAt s len)))) m h in
-    let p : Went (pathBytes s 1) (λ len. andThen (pathAt s 2 len) (λ n. done (messageAt s len))) m = then-were (pathBytes s 1) _ m (w .1) in
+    let w = all-were _ _ m h in
+    let p = then-were (pathBytes s 1) _ m (w .1) in
     let len : ℕ = p .found in
-    let q : Went (pathAt s 2 len) (λ n. done (messageAt s len)) m = then-were (pathAt s 2 len) _ m (p .then) in
-    let b = all-were (under (length s) 2 1 ∷ over (2 * getD s 1 0) maxPath 3 ∷ []) (done (2 * getD s 1 0)) len (p .is) in
-    let z : 2 * getD s 1 0 ≡ len = done-same (b .1) in
-    let c = all-were (under (length s) (2 + len) 1 ∷ []) _ (q .found) (q .is) in
+    let q = then-were (pathAt s 2 len) _ m (p .then) in
+    let z = size-was s 1 len (p .is) in
+    let c = path-was s 2 len (q .found) (q .is) in
     let e : messageAt s len ≡ m = done-same (q .then) in
     let l : length (part s (2 + len) (length s - (2 + len))) ≡ length s - (2 + len) = part-length s (2 + len) (length s - (2 + len)) (omega arith) in
-    rw (← e) (record { small = w .0 .0; begun = b .0 .0; path = omega (arith, z, b .0 .1 .0); data-is = omega (arith, w .0 .0); held = omega (arith, l, c .0 .0) })
+    rw (← e) (record { small = w .0 .0; begun = z .here; path = omega (arith, z .short); data-is = omega (arith, w .0 .0); held = omega (arith, l, c .here) })
 
 pub sent-inside : (t : List ℕ) (u : UnconnectedSend) (from m start len : ℕ) → readSend t ≡ done (sent u from m start len) → (from ≡ 4) × (4 + m ≤ length t)
 unfolding readSend sendBehind
 sent-inside t u from m start len h =
     let v : ℕ = valueOf 2 (drop 2 t) in
     let x : Sent = sent u from m start len in
-    let a = all-were (firstRules t) (judged (under (length t) 4 1 ∷ []) (sendBehind t v)) x h in
-    let b = all-were (under (length t) 4 1 ∷ []) (sendBehind t v) x (a .1) in
-    let c = all-were (messageRules t v) (andThen (paddedRouteAt t (messageEnd v)) (λ n. done (sent (sendAt t) 4 v (messageEnd v + 2) n))) x (b .1) in
-    let d : Went (paddedRouteAt t (messageEnd v)) (λ n. done (sent (sendAt t) 4 v (messageEnd v + 2) n)) x = then-were (paddedRouteAt t (messageEnd v)) _ x (c .1) in
-    let e : done (sent (sendAt t) 4 v (messageEnd v + 2) (d .found)) ≡ done (sent u from m start len) = d .then in
+    let a = all-were _ _ x h in
+    let b = all-were _ _ x (a .1) in
+    let c = all-were _ _ x (b .1) in
+    let d = then-were (paddedRouteAt t (messageEnd v)) _ x (c .1) in
+    let e = done-same (d .then) in
     let f : 4 ≡ from = cc in
     let g : v ≡ m = cc in
     (sym f, omega (arith, c .0 .0, g))
@@ -66,16 +66,10 @@ weight [] = 0
 weight (x ∷ xs) = length x + 2 + weight xs
 
 module _ (s : List ℕ) (n : ℕ) (a : Accepted s n) where
-  item-length : (k : ℕ) → k < n → length (part s (offsetAt s k) (stopAt s n k - offsetAt s k)) + offsetAt s k ≡ stopAt s n k
-  item-length k h =
-      let i : Span s n a k = span s n a k h in
-      omega (arith, i .some, i .ends, part-length s (offsetAt s k) (stopAt s n k - offsetAt s k) (omega (arith, i .ends)))
-
   weight-from : (j k : ℕ) → suc j + k ≡ n → weight (itemsFrom (suc j) s n k) + offsetAt s k ≡ length s + 2 * suc j
-  weight-from zero k h =
-      omega (arith, item-length k (omega arith), stop-last s n k (omega arith))
+  weight-from zero k h = omega (arith, item-length s n a k (omega arith), span s n a k (omega arith) .some, stop-last s n k (omega arith))
   weight-from (suc j) k h =
-      omega (arith, item-length k (omega arith), stop-next s n k (omega arith), weight-from j (k + 1) (omega arith))
+      omega (arith, item-length s n a k (omega arith), span s n a k (omega arith) .some, stop-next s n k (omega arith), weight-from j (k + 1) (omega arith))
 
 pub weight-all : (n : ℕ) (s : List ℕ) → Accepted s n → weight (itemsFrom n s n 0) + 2 ≡ length s
 weight-all zero s a = omega (arith, a .none refl)
@@ -93,7 +87,7 @@ pub held-weight : (k : Kind) (t : List ℕ) (xs : List (List ℕ)) → held k t 
 unfolding held
 held-weight Plain t xs h = let e : [] ≡ xs = cc in rw (← e) (omega arith)
 held-weight Packet t xs h =
-    let w : Went (readBody t) (λ n. done (itemsOf t)) xs = then-were (readBody t) _ xs h in
+    let w = then-were (readBody t) _ xs h in
     let n : ℕ = w .found in
     let e : itemsOf t ≡ xs = done-same (w .then) in
     rw (← e, items-all t n (accepted t n (w .is))) (omega (arith, weight-all n t (accepted t n (w .is))))

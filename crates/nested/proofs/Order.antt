@@ -4,7 +4,7 @@ use mathlib.Core.Path.{_≡_, refl, sym, ap}
 use mathlib.Core.List.{List, [], _∷_, _++_, append-assoc, append-nil}
 use Rattle.wire.specs.Parts.{part}
 use Rattle.wire.specs.Answers.{Answer, done, refused, andThen}
-use Rattle.wire.proofs.Rules.{Went, then-were}
+use Rattle.wire.proofs.Rules.{done-same, Went, then-were}
 use Rattle.message_read.specs.declared.MessageRequest.{MessageRequest}
 use Rattle.message_read.specs.Reads.{readMessage}
 use Rattle.nested.specs.Nested.{maxDepth, opensAs, held, Row, rowOf, onto, inOrder, messageBy, listed}
@@ -39,10 +39,9 @@ pub record Apart (f : List ℕ → Answer (List Row)) (x : List ℕ) (xs : List 
 pub apart : (f : List ℕ → Answer (List Row)) (x : List ℕ) (xs : List (List ℕ)) (rs : List Row) → inOrder f (x ∷ xs) ≡ done rs → Apart f x xs rs
 unfolding inOrder
 apart f x xs rs h =
-    let w : Went (f x) (λ rs. onto rs (inOrder f xs)) rs = then-were (f x) _ rs h in
-    let v : Went (inOrder f xs) (λ more. done (w .found ++ more)) rs = then-were (inOrder f xs) _ rs (w .then) in
-    let d : done (w .found ++ v .found) ≡ done rs = v .then in
-    record { first = w .found; rest = v .found; first-is = w .is; rest-is = v .is; all = cc }
+    let w = then-were (f x) _ rs h in
+    let v = then-were (inOrder f xs) (λ more. done (w .found ++ more)) rs (w .then) in
+    record { first = w .found; rest = v .found; first-is = w .is; rest-is = v .is; all = done-same (v .then) }
 
 -- the rows of a message are its own, then those of what it holds
 pub record OneLevel (left : ℕ) (s : List ℕ) (rs : List Row) : Type 0 where
@@ -57,9 +56,8 @@ pub record OneLevel (left : ℕ) (s : List ℕ) (rs : List Row) : Type 0 where
 pub one-level : (left : ℕ) (s : List ℕ) (rs : List Row) → listed (suc left) s ≡ done rs → OneLevel left s rs
 unfolding listed messageBy
 one-level left s rs h =
-    let w : Went (readMessage s) _ rs = then-were (readMessage s) _ rs h in
+    let w = then-were (readMessage s) _ rs h in
     let m : MessageRequest = w .found in
     let v : Went _ (λ more. done ((rowOf (maxDepth - left) m ∷ []) ++ more)) rs = then-were _ _ rs (w .then) in
     let u : Went (held (opensAs s m) (part s (m .«data_start») (m .«data_len»))) (inOrder (λ x. listed left x)) (v .found) = then-were _ _ (v .found) (v .is) in
-    let e : done ((rowOf (maxDepth - left) m ∷ []) ++ v .found) ≡ done rs = v .then in
-    record { message = m; read = w .is; them = u .found; holds = u .is; more = v .found; more-is = u .then; all = cc }
+    record { message = m; read = w .is; them = u .found; holds = u .is; more = v .found; more-is = u .then; all = done-same (v .then) }

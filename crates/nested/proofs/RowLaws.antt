@@ -6,7 +6,7 @@ use native.Mathlib.Omega.{arith}
 use lib.ListN.{length, set}
 use lib.Seq.{sets}
 use Rattle.wire.specs.Folds.{joined}
-use Rattle.wire.specs.Answers.{Answer, done, under}
+use Rattle.wire.specs.Answers.{Answer, done}
 use Rattle.wire.proofs.Rules.{all-keep}
 use Rattle.wire.proofs.Stores.{store-past}
 use Rattle.nested.specs.Nested.{Row, rowSize, rowValues, counted}
@@ -26,7 +26,7 @@ joined-length (r ∷ rs) = omega (arith, joined-length rs)
 -- where there is room for each number, all rows are counted
 pub counted-fits : (w : Answer (List Row)) (rs : List Row) (room : ℕ) → w ≡ done rs → rowSize * length rs ≤ room → counted w room ≡ done (length rs)
 unfolding counted
-counted-fits w rs room e h = rw e (all-keep (under room (rowSize * length rs) 2 ∷ []) (done (length rs)) (h, tt))
+counted-fits w rs room e h = rw e (all-keep _ _ (h, tt))
 
 -- `&mut l[0..0]`, no place to store, comes back as nothing before the rest
 pub lent-none : (l out : List ℕ) → length l ≡ 0 → l ++ out ≡ out

@@ -125,9 +125,7 @@ module _ (s : List ℕ) (rd : MessageRead) (is : paperMessage rd ≡ readMessage
 module _ (s : List ℕ) (left at : ℕ) (l : List ℕ) (z : left ≡ 0 → ⊥) (rd : MessageRead) (is : paperMessage rd ≡ readMessage s) where
   pub message-no : (e : Refusal) → rd ≡ NoMessage e → Walked (listed left s) at (NotCounted e) l l
   unfolding listed messageBy
-  message-no e h =
-      let y : readMessage s ≡ refused (number e) = sym is ∙ ap paperMessage h in
-      walk-no (listed left s) e at l l (rw (← positive left z, y))
+  message-no e h = walk-no (listed left s) e at l l (rw (← positive left z, sym is ∙ ap paperMessage h))
 
   module _ (m : MessageRequest) (h : rd ≡ FoundMessage m) (t : List ℕ) (te : t ≡ part s (m .«data_start») (m .«data_len»)) (row : List ℕ)
       (re : row ≡ sets l (rowSize * at) (rowValues (rowOf (levels - left) m))) (k : Kind) (ke : k ≡ opensAs s m) where
@@ -157,9 +155,7 @@ pub ruleset message-laws = (message-deep, message-no, message-path, message-data
 module _ (s : List ℕ) (left at : ℕ) (l : List ℕ) (rd : SendRead) (is : paperSend rd ≡ readSend s) where
   pub send-no : (e : Refusal) → rd ≡ NoSend e → Walked (heldRows Send left s) at (NotCounted e) l l
   unfolding heldRows held
-  send-no e h =
-      let z : readSend s ≡ refused (number e) = sym is ∙ ap paperSend h in
-      walk-no (heldRows Send left s) e at l l (rw z)
+  send-no e h = walk-no _ e at l l (rw (sym is ∙ ap paperSend h))
 
   module _ (u : UnconnectedSend) (from m start len : ℕ) (h : rd ≡ FoundSend u from m start len) where
     sent-was : readSend s ≡ done (sent u from m start len)
@@ -197,9 +193,7 @@ pub record Turn (s : List ℕ) (left n rest at next : ℕ) (l l′ : List ℕ) :
 module _ (s : List ℕ) (left at : ℕ) (l : List ℕ) (rd : Counted) (is : paperCount rd ≡ readBody s) where
   pub body-no : (e : Refusal) → rd ≡ NotCounted e → Walked (heldRows Packet left s) at (NotCounted e) l l
   unfolding heldRows held
-  body-no e h =
-      let z : readBody s ≡ refused (number e) = sym is ∙ ap paperCount h in
-      walk-no (heldRows Packet left s) e at l l (rw z)
+  body-no e h = walk-no _ e at l l (rw (sym is ∙ ap paperCount h))
 
   pub turn-first : (n : ℕ) → rd ≡ Count n → rowBytes * at + length s ≤ maxRecord + 2 → Turn s left n n at at l l
   unfolding heldRows
@@ -262,8 +256,7 @@ module _ (s : List ℕ) (left n rest at next : ℕ) (l l′ : List ℕ) (h : Tur
         pub turn-no : (e : Refusal) → r ≡ NotCounted e → Walked (heldRows Packet left s) at (NotCounted e) l l″
         turn-no e f =
             let q : listed left (bytesIn s (itemAt s n (n - rest))) ≡ refused (number e) = lost _ next e r (here .says) f in
-            walk-no (heldRows Packet left s) e at l l″
-            (left-over ∙ ap (λ (w : Answer (List Row)). onto (h .acc) (andThen w (λ rs. onto rs (inOrder (λ x. listed left x) (itemsFrom (rest - 1) s n (n - (rest - 1))))))) q)
+            walk-no (heldRows Packet left s) e at l l″ (left-over ∙ rw q)
 
         pub turn-goes : (m : ℕ) → r ≡ Count m → Turn s left n (rest - 1) at m l l″
         turn-goes m f =
@@ -273,10 +266,7 @@ module _ (s : List ℕ) (left n rest at next : ℕ) (l l′ : List ℕ) (h : Tur
               body = h .body;
               most = omega (arith, h .most);
               acc = h .acc ++ v .them;
-              spec =
-                  left-over
-                  ∙ ap (λ (w : Answer (List Row)). onto (h .acc) (andThen w (λ rs. onto rs (inOrder (λ x. listed left x) (itemsFrom (rest - 1) s n (n - (rest - 1))))))) (v .found)
-                  ∙ onto-onto (h .acc) (v .them) (inOrder (λ x. listed left x) (itemsFrom (rest - 1) s n (n - (rest - 1))));
+              spec = left-over ∙ rw (v .found) (onto-onto (h .acc) (v .them) _);
               place = omega (arith, v .ends, h .place, length-append (h .acc) (v .them));
               has = then-rows l l′ l″ (h .acc) (v .them) at next (h .has) (h .place) w;
               same = ap length w ∙ length-sets l′ (rowSize * next) (joined rowValues (v .them)) ∙ h .same;

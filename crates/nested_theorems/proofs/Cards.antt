@@ -3,7 +3,7 @@ use Prim.Native.Nat.{ℕ}
 use mathlib.Core.Path.{_≡_, refl}
 use mathlib.Core.List.{List, [], _∷_}
 use Rattle.wire.specs.Numbers.{valueOf}
-use Rattle.wire.specs.Answers.{done, breaks, numberOf, judged}
+use Rattle.wire.specs.Answers.{done, breaks, judged}
 use Rattle.epath.specs.Paths.{walk, checkPath}
 use Rattle.epath_segment.specs.Reads.{formOf, formIn, readNarrow, readSeg}
 use Rattle.message_read.specs.Reads.{pathBytes, pathAt, readMessage}
@@ -23,7 +23,7 @@ pub card-nested : nested example
     ∷ record { depth = 1; service = 0x0E; pathLen = 6; dataLen = 0 }
     ∷ []
     )
-unfolding nested listed messageBy inOrder held kindOf sameBytes readMessage pathBytes pathAt checkPath walk readSeg readNarrow formOf formIn readBody itemsOf judged breaks numberOf valueOf
+unfolding nested listed messageBy inOrder held kindOf sameBytes readMessage pathBytes pathAt checkPath walk readSeg readNarrow formOf formIn readBody itemsOf judged breaks valueOf
 card-nested = refl
 
 -- `0 0A 4 22`, `1 0E 6 0`, `1 0E 6 0`, each with a newline

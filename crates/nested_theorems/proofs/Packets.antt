@@ -5,7 +5,7 @@ use mathlib.Core.List.{List, [], _∷_}
 use native.Mathlib.Omega.{arith}
 use lib.ListN.{length}
 use Rattle.wire.specs.Parts.{part}
-use Rattle.wire.specs.Answers.{breaks, numberOf, judged}
+use Rattle.wire.specs.Answers.{breaks, judged}
 use Rattle.epath.specs.Paths.{walk, checkPath}
 use Rattle.epath_segment.specs.Reads.{formOf, formIn, readNarrow, readSeg}
 use Rattle.connection.specs.Limits.{maxRecord}
@@ -23,11 +23,11 @@ use Rattle.nested_theorems.proofs.Nesting.{opens-packet, opens-send}
 
 -- the two paths are paths
 route-to-router : Route (pathTo messageRouter)
-unfolding checkPath walk readSeg readNarrow formOf formIn judged breaks numberOf
+unfolding checkPath walk readSeg readNarrow formOf formIn judged breaks
 route-to-router = record { count = 2; is = refl; short = omega arith; even = refl }
 
 route-to-manager : Route (pathTo connectionManager)
-unfolding checkPath walk readSeg readNarrow formOf formIn judged breaks numberOf
+unfolding checkPath walk readSeg readNarrow formOf formIn judged breaks
 route-to-manager = record { count = 2; is = refl; short = omega arith; even = refl }
 
 -- ---- a packet around messages: its own row, then theirs

@@ -100,30 +100,30 @@ module _ {A : Type 0} (fields : List ℕ → ℕ → A) (size : ℕ) (routing : 
 
     module _ (h : t ≡ true) (r : Counted) (of : paperCount r ≡ appData s (m .«data_start» + size)) where
       pub success-stops : (e : Refusal) → r ≡ NotCounted e → refused (number e) ≡ replyData fields size routing s m
-      success-stops e f = succeeds (refused (number e)) h (then-stops (appData s (m .«data_start» + size)) _ (number e) (sym of ∙ ap paperCount f))
+      success-stops e f = succeeds (refused (number e)) h (then-stops _ _ (number e) (sym of ∙ ap paperCount f))
 
       pub success-found : (len : ℕ) (x : A) → r ≡ Count len → x ≡ fields s (m .«data_start»)
           → done (succeeded m x (m .«data_start» + size + 2) len) ≡ replyData fields size routing s m
       success-found len x f e =
           succeeds (done (succeeded m x (m .«data_start» + size + 2) len)) h
-          (then-goes (appData s (m .«data_start» + size)) _ len _ (sym of ∙ ap paperCount f) (rw e))
+          (then-goes _ _ len _ (sym of ∙ ap paperCount f) (rw e))
 
     module _ (h : t ≡ false) (r : FailRead) (of : paperFail r ≡ readFail routing s (m .«data_start»)) where
       pub failure-stops : (e : Refusal) → r ≡ NoFail e → refused (number e) ≡ replyData fields size routing s m
-      failure-stops e f = fails (refused (number e)) h (then-stops (readFail routing s (m .«data_start»)) _ (number e) (sym of ∙ ap paperFail f))
+      failure-stops e f = fails (refused (number e)) h (then-stops _ _ (number e) (sym of ∙ ap paperFail f))
 
       pub failure-found : (f : ForwardRequestFail) → r ≡ Found f → done (failed m f) ≡ replyData fields size routing s m
-      failure-found f e = fails (done (failed m f)) h (then-goes (readFail routing s (m .«data_start»)) _ f _ (sym of ∙ ap paperFail e) refl)
+      failure-found f e = fails (done (failed m f)) h (then-goes _ _ f _ (sym of ∙ ap paperFail e) refl)
 
   module _ (r : ReplyRead) (is : paperReply r ≡ readHeader s) where
     pub header-stops : (e : Refusal) → r ≡ NoReply e → refused (number e) ≡ readReply fields size routing s
     unfolding readReply
-    header-stops e h = then-stops (readHeader s) (replyData fields size routing s) (number e) (sym is ∙ ap paperReply h)
+    header-stops e h = then-stops _ _ (number e) (sym is ∙ ap paperReply h)
 
     module _ (m : MessageReply) (h : r ≡ FoundReply m) where
       pub header-goes : (z : Answer (Reply A)) → z ≡ replyData fields size routing s m → z ≡ readReply fields size routing s
       unfolding readReply
-      header-goes z e = then-goes (readHeader s) (replyData fields size routing s) m z (sym is ∙ ap paperReply h) e
+      header-goes z e = then-goes _ _ m z (sym is ∙ ap paperReply h) e
 
 -- the data starts near: sums of its place don't wrap
 pub header-near : (s : List ℕ) (r : ReplyRead) (m : MessageReply) → paperReply r ≡ readHeader s → r ≡ FoundReply m → m .«data_start» ≤ 1000

@@ -85,6 +85,6 @@ pub record Header (s : List ℕ) (m : MessageReply) : Type 0 where
 pub header-was : (s : List ℕ) (m : MessageReply) → readHeader s ≡ done m → Header s m
 unfolding readHeader
 header-was s m h =
-    let w = all-were (headerRules s) (done (replyAt s)) m h in
+    let w = all-were _ _ m h in
     let e : done (replyAt s) ≡ done m = w .1 in
     record { small = w .0 .0; inside = w .0 .1 .1 .0; few = w .0 .1 .1 .1 .0; is = cc }

@@ -2,18 +2,18 @@
 -- success, no extended word, is the one that is written of what was read; behind it stands what the reader passed over. Assumes nothing.
 use Prim.Native.Nat.{ℕ, zero, suc, _+_, _*_, _-_, _/_, _≤_}
 use mathlib.Core.Path.{_≡_, refl, sym, ap, _∙_}
-use mathlib.Core.List.{List, [], _∷_, _++_, append-assoc}
+use mathlib.Core.List.{List, [], _++_, append-assoc}
 use mathlib.Core.Bool.{Bool, true, false}
 use native.Mathlib.Omega.{arith}
 use lib.ListN.{length, getD, drop}
 use Rattle.wire.specs.Numbers.{valueOf, Bytes}
 use Rattle.wire.specs.Parts.{part}
-use Rattle.wire.specs.Answers.{done, under}
+use Rattle.wire.specs.Answers.{done}
 use Rattle.wire.specs.Records.{Field, bytesOf, laid, widths, fieldsAt}
 use Rattle.wire.proofs.Rules.{done-same, all-were, then-were}
 use Rattle.wire.proofs.Choice.{pick-past}
 use Rattle.wire.proofs.Folds.{joined-append}
-use Rattle.wire.proofs.Records.{fields-again}
+use Rattle.wire.proofs.Records.{fields-were}
 use Rattle.wire.proofs.Stores.{part-length, part-split}
 use Rattle.connection.specs.declared.ForwardOpenSuccess.{ForwardOpenSuccess}
 use Rattle.connection.specs.declared.ForwardCloseSuccess.{ForwardCloseSuccess}
@@ -39,7 +39,7 @@ pub record SuccessWas {A : Type 0} (fields : List ℕ → ℕ → A) (size : ℕ
 app-was : (s : List ℕ) (at n : ℕ) → appData s at ≡ done n → (2 * getD s at 0 ≡ n) × (at + 2 + n ≤ length s)
 unfolding appData
 app-was s at n h =
-    let w = all-were (under (length s) (at + 2) 1 ∷ under (length s) (at + 2 + 2 * getD s at 0) 1 ∷ []) (done (2 * getD s at 0)) n h in
+    let w = all-were _ _ n h in
     let q : 2 * getD s at 0 ≡ n = done-same (w .1) in
     (q, omega (arith, w .0 .1 .0))
 
@@ -47,25 +47,23 @@ pub success-was : {A : Type 0} (fields : List ℕ → ℕ → A) (size : ℕ) (r
     → readReply fields size routing s ≡ done (succeeded m x start len) → SuccessWas fields size s m x start len
 unfolding readReply replyData
 success-was {A} fields size routing s m x start len h =
-    let v = then-were (readHeader s) (replyData fields size routing s) (succeeded m x start len) h in
+    let v = then-were _ _ _ h in
     go (v .found) (v .is) (isOk (v .found .status)) refl (v .then)
   where
     go : (n : MessageReply) → readHeader s ≡ done n → (t : Bool) → isOk (n .status) ≡ t → replyData fields size routing s n ≡ done (succeeded m x start len)
         → SuccessWas fields size s m x start len
     go n is true e f =
-        let w = then-were (appData s (n .«data_start» + size)) (λ k. done (succeeded n (fields s (n .«data_start»)) (n .«data_start» + size + 2) k)) (succeeded m x start len)
-        (rw e at f) in
-        let k : ℕ = w .found in
-        let g : done (succeeded n (fields s (n .«data_start»)) (n .«data_start» + size + 2) k) ≡ done (succeeded m x start len) = w .then in
+        let w = then-were (appData s (n .«data_start» + size)) _ (succeeded m x start len) (rw e at f) in
+        let g = done-same (w .then) in
         let a : n ≡ m = cc in
         let b : fields s (n .«data_start») ≡ x = cc in
         let c : n .«data_start» + size + 2 ≡ start = cc in
-        let d : k ≡ len = cc in
-        let l = app-was s (n .«data_start» + size) k (w .is) in
+        let d : w .found ≡ len = cc in
+        let l = app-was s (n .«data_start» + size) (w .found) (w .is) in
         rw (← a) (record { header = header-was s n is; served = e; fields-are = b; starts = c; sized = l .0 ∙ d; here = omega (arith, l .1) })
     go n is false e f =
-        let w = then-were (readFail routing s (n .«data_start»)) (λ g. done (failed n g)) (succeeded m x start len) (rw e at f) in
-        let g : done (failed n (w .found)) ≡ done (succeeded m x start len) = w .then in
+        let w = then-were (readFail routing s (n .«data_start»)) _ (succeeded m x start len) (rw e at f) in
+        let g = w .then in
         absurd (let z : _≡_ {A = ℕ} 0 1 = cc in omega arith)
 
 -- ---- a header without an extended word
@@ -101,10 +99,12 @@ record PlainWas {A : Type 0} (fields : List ℕ → ℕ → A) (size : ℕ) (s :
   sized : getD s (4 + size) 0 ≡ length (part s start len) / 2
   reserved : getD s (4 + size + 1) 0 ≡ 0
   fields-are : fields s 4 ≡ x
+  here : start + len ≤ length s
 
-plain-was : {A : Type 0} (fields : List ℕ → ℕ → A) (size : ℕ) (s : List ℕ) (m : MessageReply) (x : A) (start len : ℕ)
-    → SuccessWas fields size s m x start len → Plain s m start → PlainWas fields size s m x start len
-plain-was fields size s m x start len w p =
+plain-was : {A : Type 0} (fields : List ℕ → ℕ → A) (size : ℕ) (routing : Bool) (s : List ℕ) (m : MessageReply) (x : A) (start len : ℕ)
+    → readReply fields size routing s ≡ done (succeeded m x start len) → Plain s m start → PlainWas fields size s m x start len
+plain-was fields size routing s m x start len h p =
+    let w = success-was fields size routing s m x start len h in
     let n : getD s 3 0 ≡ 0 = no-word s (ap (λ (k : MessageReply). k .status .extended) (w .header .is) ∙ p .bare) in
     let d : dataStart s ≡ m .«data_start» = ap (λ (k : MessageReply). k .«data_start») (w .header .is) in
     let f : m .«data_start» ≡ 4 = omega arith in
@@ -120,6 +120,7 @@ plain-was fields size s m x start len w p =
       sized = omega arith;
       reserved = ap (λ (k : ℕ). getD s k 0) (sym r) ∙ p .second;
       fields-are = ap (fields s) (sym f) ∙ w .fields-are;
+      here = w .here;
     }
 
 -- what was read is a record, its application data, and what follows it
@@ -127,11 +128,7 @@ module _ (s : List ℕ) (start len : ℕ) (F G : List Field) (b : Bytes s) (here
     (same : fieldsAt F s 0 ≡ G) where
   again : s ≡ (laid G ++ part s start len) ++ drop (start + len) s
   again =
-      let k : 0 + widths F ≡ start = omega arith in
-      let e : drop (0 + widths F) s ≡ part s start len ++ drop (start + len) s = ap (λ (j : ℕ). drop j s) k ∙ part-split s start len in
-      sym (fields-again F s 0 b (omega arith))
-      ∙ ap (λ (l : List Field). laid l ++ drop (0 + widths F) s) same
-      ∙ ap (λ (l : List ℕ). laid G ++ l) e
+      fields-were F G s (part s start len ++ drop (start + len) s) 0 start b (omega arith) (omega arith) same (part-split s start len)
       ∙ sym (append-assoc (laid G) (part s start len) (drop (start + len) s))
 
 -- ---- Forward Open
@@ -141,10 +138,9 @@ pub open-reply-written-of-read : (routing : Bool) (s : List ℕ) (m : MessageRep
     → s ≡ openReplyBytes (m .«reply_service») o (part s start len) ++ drop (start + len) s
 unfolding openReplyBytes
 open-reply-written-of-read routing s m o start len b h p =
-    let w : SuccessWas openSuccessAt 24 s m o start len = success-was openSuccessAt 24 routing s m o start len h in
-    let q : PlainWas openSuccessAt 24 s m o start len = plain-was openSuccessAt 24 s m o start len w p in
+    let q = plain-was openSuccessAt 24 routing s m o start len h p in
     again s start len (headerFields 0 success ++ (openSuccessFields (openSuccessAt s 4) ++ appFields []))
-    (headerFields (m .«reply_service») success ++ (openSuccessFields o ++ appFields (part s start len))) b (w .here) (q .starts)
+    (headerFields (m .«reply_service») success ++ (openSuccessFields o ++ appFields (part s start len))) b (q .here) (q .starts)
     (rw (q .service, p .first, q .general, q .words, q .sized, q .reserved, ← q .fields-are))
 
 -- ---- Forward Close
@@ -154,10 +150,9 @@ pub close-reply-written-of-read : (routing : Bool) (s : List ℕ) (m : MessageRe
     → s ≡ closeReplyBytes (m .«reply_service») c (part s start len) ++ drop (start + len) s
 unfolding closeReplyBytes
 close-reply-written-of-read routing s m c start len b h p =
-    let w : SuccessWas closeSuccessAt 8 s m c start len = success-was closeSuccessAt 8 routing s m c start len h in
-    let q : PlainWas closeSuccessAt 8 s m c start len = plain-was closeSuccessAt 8 s m c start len w p in
+    let q = plain-was closeSuccessAt 8 routing s m c start len h p in
     again s start len (headerFields 0 success ++ (closeSuccessFields (closeSuccessAt s 4) ++ appFields []))
-    (headerFields (m .«reply_service») success ++ (closeSuccessFields c ++ appFields (part s start len))) b (w .here) (q .starts)
+    (headerFields (m .«reply_service») success ++ (closeSuccessFields c ++ appFields (part s start len))) b (q .here) (q .starts)
     (rw (q .service, p .first, q .general, q .words, q .sized, q .reserved, ← q .fields-are))
 
 -- ---- failure: where the byte behind the service is zero
@@ -171,24 +166,22 @@ pub failure-was : {A : Type 0} (fields : List ℕ → ℕ → A) (size : ℕ) (r
     → readReply fields size routing s ≡ done (failed m f) → FailureWas routing s m f
 unfolding readReply replyData readFail
 failure-was {A} fields size routing s m f h =
-    let v = then-were (readHeader s) (replyData fields size routing s) (failed m f) h in
+    let v = then-were _ _ _ h in
     go (v .found) (v .is) (isOk (v .found .status)) refl (v .then)
   where
     go : (n : MessageReply) → readHeader s ≡ done n → (t : Bool) → isOk (n .status) ≡ t → replyData fields size routing s n ≡ done (failed m f)
         → FailureWas routing s m f
     go n is true e g =
-        let w = then-were (appData s (n .«data_start» + size)) (λ k. done (succeeded n (fields s (n .«data_start»)) (n .«data_start» + size + 2) k)) (failed m f) (rw e at g) in
-        let q : done (succeeded n (fields s (n .«data_start»)) (n .«data_start» + size + 2) (w .found)) ≡ done (failed m f) = w .then in
+        let w = then-were (appData s (n .«data_start» + size)) _ (failed m f) (rw e at g) in
+        let q = w .then in
         absurd (let z : _≡_ {A = ℕ} 0 1 = cc in omega arith)
     go n is false e g =
-        let w = then-were (readFail routing s (n .«data_start»)) (λ x. done (failed n x)) (failed m f) (rw e at g) in
-        let u = all-were (under (length s) (n .«data_start» + failSize routing) 1 ∷ []) (done (failAt routing s (n .«data_start»))) (w .found) (w .is) in
-        let q : done (failed n (w .found)) ≡ done (failed m f) = w .then in
-        let r : done (failAt routing s (n .«data_start»)) ≡ done (w .found) = u .1 in
+        let w = then-were (readFail routing s (n .«data_start»)) _ (failed m f) (rw e at g) in
+        let u = all-were _ _ (w .found) (w .is) in
+        let q = done-same (w .then) in
         let a : n ≡ m = cc in
         let b : w .found ≡ f = cc in
-        let c : failAt routing s (n .«data_start») ≡ w .found = cc in
-        rw (← a) (record { header = header-was s n is; fields-are = c ∙ b; here = u .0 .0 })
+        rw (← a) (record { header = header-was s n is; fields-are = done-same (u .1) ∙ b; here = u .0 .0 })
 
 header-again : (s : List ℕ) → Bytes s → dataStart s ≤ length s → getD s 3 0 ≤ mostWords → getD s 1 0 ≡ 0
     → laid (headerFields (getD s 0 0) (statusAt s)) ++ drop (dataStart s) s ≡ s
@@ -196,18 +189,12 @@ header-again s b l few z = go (getD s 3 0) refl
   where
     go : (n : ℕ) → getD s 3 0 ≡ n → laid (headerFields (getD s 0 0) (statusAt s)) ++ drop (dataStart s) s ≡ s
     go zero e =
-        let F : List Field = headerFields 0 (record { general = 0; extended = Absent }) in
-        let x : headerFields (getD s 0 0) (statusAt s) ≡ fieldsAt F s 0 = rw (e, z) in
-        let k : dataStart s ≡ 4 = omega arith in
-        ap (λ (l : List Field). laid l ++ drop (dataStart s) s) x ∙ ap (λ (j : ℕ). laid (fieldsAt F s 0) ++ drop j s) k ∙ fields-again F s 0 b (omega arith)
+        sym (fields-were (headerFields 0 (record { general = 0; extended = Absent })) (headerFields (getD s 0 0) (statusAt s)) s (drop (dataStart s) s) 0 (dataStart s) b (omega arith) l (rw (e, z)) refl)
     go (suc n) e =
-        let F : List Field = headerFields 0 (record { general = 0; extended = Word 0 }) in
         let v : ExtendedStatus = Word (valueOf 2 (drop 4 s)) in
         let o : getD s 3 0 ≡ 1 = omega arith in
         let w : statusAt s .extended ≡ v = sym (pick-past (getD s 3 0) 0 Absent v v (λ q. omega arith) refl) in
-        let x : headerFields (getD s 0 0) (statusAt s) ≡ fieldsAt F s 0 = rw (w, o, z) in
-        let k : dataStart s ≡ 6 = omega arith in
-        ap (λ (l : List Field). laid l ++ drop (dataStart s) s) x ∙ ap (λ (j : ℕ). laid (fieldsAt F s 0) ++ drop j s) k ∙ fields-again F s 0 b (omega arith)
+        sym (fields-were (headerFields 0 (record { general = 0; extended = Word 0 })) (headerFields (getD s 0 0) (statusAt s)) s (drop (dataStart s) s) 0 (dataStart s) b (omega arith) l (rw (w, o, z)) refl)
 
 fail-again : (routing : Bool) (s : List ℕ) (at : ℕ) → Bytes s → at + failSize routing ≤ length s
     → laid (failureFields (failAt routing s at)) ++ drop (at + failSize routing) s ≡ drop at s
@@ -220,14 +207,8 @@ fail-again routing s at b l = go routing l
     eight = let n : at + 2 + 2 + 4 ≡ at + 8 = omega arith in ap (λ (k : ℕ). getD s k 0) n
 
     go : (t : Bool) → at + failSize t ≤ length s → laid (failureFields (failAt t s at)) ++ drop (at + failSize t) s ≡ drop at s
-    go false h =
-        let F : List Field = failureFields (failAt false s at) in
-        let x : fieldsAt F s at ≡ F = rw four in
-        ap (λ (l : List Field). laid l ++ drop (at + 8) s) (sym x) ∙ fields-again F s at b h
-    go true h =
-        let F : List Field = failureFields (failAt true s at) in
-        let x : fieldsAt F s at ≡ F = rw (four, eight) in
-        ap (λ (l : List Field). laid l ++ drop (at + 9) s) (sym x) ∙ fields-again F s at b h
+    go false h = let F : List Field = failureFields (failAt false s at) in sym (fields-were F F s (drop (at + 8) s) at (at + 8) b (omega arith) h (rw four) refl)
+    go true h = let F : List Field = failureFields (failAt true s at) in sym (fields-were F F s (drop (at + 9) s) at (at + 9) b (omega arith) h (rw (four, eight)) refl)
 
 pub failure-written-of-read : {A : Type 0} (fields : List ℕ → ℕ → A) (size : ℕ) (routing : Bool) (s : List ℕ) (m : MessageReply) (f : ForwardRequestFail) → Bytes s
     → readReply fields size routing s ≡ done (failed m f) → getD s 1 0 ≡ 0

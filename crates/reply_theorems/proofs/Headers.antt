@@ -7,13 +7,13 @@ use lib.ListN.{length, getD, take, drop, length-append}
 use lib.Seq.{length-take-le}
 use Rattle.wire.specs.Numbers.{valueOf, lowFirst}
 use Rattle.wire.specs.Parts.{part}
-use Rattle.wire.specs.Answers.{done, refused, breaks, numberOf, judged}
+use Rattle.wire.specs.Answers.{done}
 use Rattle.wire.specs.Records.{laid, widths}
 use Rattle.wire.proofs.Rules.{all-keep}
 use Rattle.wire.proofs.Numbers.{value-low, value-two}
 use Rattle.wire.proofs.Stores.{part-last}
 use Rattle.connection.specs.Limits.{maxRecord}
-use Rattle.reply_header.specs.Headers.{headerFields, dataStart, headerRules, statusAt, replyAt, readHeader}
+use Rattle.reply_header.specs.Headers.{headerFields, dataStart, statusAt, readHeader}
 use Rattle.reply_header.specs.declared.ExtendedStatus.{ExtendedStatus}
 use Rattle.reply_header.specs.declared.ExtendedStatus.the-variants.{Absent, Word}
 use Rattle.reply_header.specs.declared.Status.{Status}
@@ -42,11 +42,11 @@ header-read-of-written service st d h small = go (st .general) (st .extended) h 
     go g Absent f l =
         let s : List ℕ = service ∷ 0 ∷ g ∷ 0 ∷ d in
         let n : length s - 4 ≡ length d = omega arith in
-        all-keep (headerRules s) (done (replyAt s)) (omega arith, (omega arith, (omega arith, (omega arith, tt)))) ∙ rw n
+        all-keep _ _ (omega arith, (omega arith, (omega arith, (omega arith, tt)))) ∙ rw n
     go g (Word w) f l =
         let s : List ℕ = service ∷ 0 ∷ g ∷ 1 ∷ (lowFirst 2 w ++ d) in
         let n : length s - 6 ≡ length d = omega arith in
-        all-keep (headerRules s) (done (replyAt s)) (omega arith, (omega arith, (omega arith, (omega arith, tt)))) ∙ rw (value-low 2 w d f, n)
+        all-keep _ _ (omega arith, (omega arith, (omega arith, (omega arith, tt)))) ∙ rw (value-low 2 w d f, n)
 
 -- ---- the data is exactly the rest
 
@@ -94,15 +94,5 @@ header-alone s d m h = let w : Header s m = header-was s m h in rw (← w .is) (
         let r : length t - dataStart s ≡ length d = omega arith in
         let v : 1 ≤ getD s 3 0 → valueOf 2 (drop 4 t) ≡ valueOf 2 (drop 4 s)
         = λ l. sym (value-two t 4 (getD s 4 0) (getD s 5 0) (sym (front 4 (omega arith))) (sym (front 5 (omega arith)))) ∙ value-two s 4 (getD s 4 0) (getD s 5 0) refl refl in
-        all-keep (headerRules t) (done (replyAt t)) (omega arith, (omega arith, (omega arith, (omega (arith, w .few), tt))))
+        all-keep _ _ (omega arith, (omega arith, (omega arith, (omega (arith, w .few), tt))))
         ∙ rw (a, b, extended-same s t (getD s 3 0) refl e v, e, r)
-
--- ---- document 01's cards
-
-pub card-word : readHeader (0x8E ∷ 0 ∷ 8 ∷ 1 ∷ 3 ∷ 0 ∷ []) ≡ done (headed 0x8E (record { general = 8; extended = Word 3 }) 0)
-unfolding readHeader judged breaks valueOf
-card-word = refl
-
-pub card-cut : readHeader (0x8E ∷ 0 ∷ 8 ∷ 1 ∷ 3 ∷ []) ≡ refused 1
-unfolding readHeader judged breaks numberOf
-card-cut = refl

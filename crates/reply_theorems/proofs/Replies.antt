@@ -1,7 +1,7 @@
 -- What a user may rely on of Forward Open and Forward Close replies: what was written is read, whatever follows it. Assumes nothing.
-use Prim.Native.Nat.{ℕ, _+_, _*_, _-_, _/_, _%_, _≤_, _<_}
+use Prim.Native.Nat.{ℕ, _+_, _*_, _/_, _%_, _≤_, _<_}
 use mathlib.Core.Path.{_≡_, refl, sym, ap, _∙_}
-use mathlib.Core.List.{List, [], _∷_, _++_, map, append-assoc}
+use mathlib.Core.List.{List, [], _∷_, _++_, append-assoc}
 use native.Mathlib.Nat.{zero-add}
 use mathlib.Core.Bool.{Bool, true, false}
 use native.Mathlib.Omega.{arith}
@@ -9,11 +9,11 @@ use lib.ListN.{length, getD, drop, length-append}
 use Rattle.wire.specs.Numbers.{valueOf}
 use Rattle.wire.specs.Parts.{part}
 use Rattle.wire.specs.Answers.{done, under}
-use Rattle.wire.specs.Records.{Field, byte, num, bytesOf, laid, widths, AllHold, fieldsAt}
+use Rattle.wire.specs.Records.{Field, bytesOf, laid, widths, AllHold, fieldsAt}
 use Rattle.wire.proofs.Rules.{all-keep, then-done}
 use Rattle.wire.proofs.Choice.{pick-past}
 use Rattle.wire.proofs.Folds.{joined-append}
-use Rattle.wire.proofs.Records.{fields-back, laid-size, past-laid}
+use Rattle.wire.proofs.Records.{field, fields-back, laid-size, past-laid}
 use Rattle.wire.proofs.Stores.{part-front}
 use Rattle.connection.specs.Limits.{maxRecord, maxAppData}
 use Rattle.connection.specs.declared.ForwardOpenSuccess.{ForwardOpenSuccess}
@@ -27,7 +27,7 @@ use Rattle.reply_header.specs.Headers.{headerFields, readHeader}
 use Rattle.reply_header.specs.declared.Status.{Status}
 use Rattle.reply_header.specs.declared.MessageReply.{MessageReply}
 use Rattle.reply_encode.specs.Replies.{success, appFields, openSuccessFields, closeSuccessFields, openReplyBytes, closeReplyBytes, remainingFields, failureFields, failureBytes}
-use Rattle.reply.specs.Reads.{succeeded, failed, appData, failSize, remainingAt, failAt, readFail, replyData, readReply, openSuccessAt, readOpenReply, closeSuccessAt, readCloseReply}
+use Rattle.reply.specs.Reads.{succeeded, failed, appData, failSize, remainingAt, failAt, readFail, replyData, readReply, openSuccessAt, closeSuccessAt}
 use Rattle.reply_theorems.proofs.Headers.{headed, WordFits, header-read-of-written}
 
 -- ---- application data that a writer takes
@@ -43,107 +43,74 @@ app-back : (s app : List ℕ) (at : ℕ) → AppFits app → at + 2 + length app
 unfolding appData
 app-back s app at f l e =
     let n : 2 * getD s at 0 ≡ length app = omega (arith, f .even) in
-    all-keep (under (length s) (at + 2) 1 ∷ under (length s) (at + 2 + 2 * getD s at 0) 1 ∷ []) (done (2 * getD s at 0)) (omega arith, (omega arith, tt)) ∙ rw n
+    all-keep _ _ (omega arith, (omega arith, tt)) ∙ rw n
 
 both-hold : (a b : List Field) → AllHold a → AllHold b → AllHold (a ++ b)
 both-hold [] b h g = g
 both-hold (x ∷ a) b h g = (h .0, both-hold a b (h .1) g)
 
--- the number in a field of a list
-worth : Field → ℕ
-worth (byte v) = v
-worth (num k v) = v
+-- ---- a success, either one
 
-nth : ℕ → List Field → ℕ
-nth i fs = getD (map worth fs) i 0
+-- bytes that were written, behind them whatever follows, are read as x; and where the application data is said to lie it lies
+pub record SuccessBack {A : Type 0} (fields : List ℕ → ℕ → A) (size : ℕ) (routing : Bool) (service : ℕ) (x : A) (bytes app rest : List ℕ) : Type 0 where
+  pub read : readReply fields size routing (bytes ++ rest)
+      ≡ done (succeeded (headed service success (size + 2 + length app + length rest)) x (4 + size + 2) (length app))
+  pub app-is : part (bytes ++ rest) (4 + size + 2) (length app) ≡ app
 
--- ---- a success, either one: written fields fs, the application data, and whatever follows
-module _ (service : ℕ) (fs : List Field) (app rest : List ℕ) where
+-- the fields fs of a record of `size` bytes; `from` makes the record of all fields of a reply, and the size of the application data is number i of them
+module _ {A : Type 0} (fields : List ℕ → ℕ → A) (size : ℕ) (routing : Bool) (service : ℕ) (x : A) (fs : List Field) (app rest : List ℕ) where
   abbrev record-of : List Field
   record-of = headerFields service success ++ (fs ++ appFields app)
 
   abbrev reply-of : List ℕ
   reply-of = (laid record-of ++ app) ++ rest
 
-  record-holds : service < 256 → AllHold fs → AppFits app → AllHold record-of
-  record-holds b h f =
-      both-hold (headerFields service success) (fs ++ appFields app) (b, (omega arith, (omega arith, (omega arith, tt))))
-      (both-hold fs (appFields app) h (words-small app f, (omega arith, tt)))
-
-  here : drop 0 reply-of ≡ laid record-of ++ (app ++ rest)
-  here = append-assoc (laid record-of) app rest
-
-  reply-length : length reply-of ≡ widths record-of + length app + length rest
-  reply-length = omega (arith, ap length here, laid-size record-of (app ++ rest), length-append app rest)
-
-  -- fields of size bytes that are read as x
-  success-back : {A : Type 0} (fields : List ℕ → ℕ → A) (size : ℕ) (x : A) (routing : Bool) → AppFits app → widths record-of ≡ 4 + size + 2 → length reply-of ≤ maxRecord
-      → getD reply-of (4 + size) 0 ≡ length app / 2 → fields reply-of 4 ≡ x
-      → readReply fields size routing reply-of ≡ done (succeeded (headed service success (size + 2 + length app + length rest)) x (4 + size + 2) (length app))
+  success-back : (from : List Field → A) (i : ℕ) → from record-of ≡ x → from (fieldsAt record-of reply-of 0) ≡ fields reply-of 4
+      → field i (fieldsAt record-of reply-of 0) ≡ getD reply-of (4 + size) 0 → field i record-of ≡ length app / 2 → widths record-of ≡ 4 + size + 2
+      → service < 256 → AllHold fs → AppFits app → 4 + size + 2 + length app + length rest ≤ maxRecord → SuccessBack fields size routing service x (laid record-of ++ app) app rest
   unfolding readReply replyData
-  success-back fields size x routing f wide small w is =
-      let l : length reply-of ≡ 4 + size + 2 + length app + length rest = omega (arith, reply-length) in
+  success-back from i is got there worth wide b h f small =
+      let s : List ℕ = reply-of in
+      let here : drop 0 s ≡ laid record-of ++ (app ++ rest) = append-assoc (laid record-of) app rest in
+      let holds : AllHold record-of
+      = both-hold (headerFields service success) (fs ++ appFields app) (b, (omega arith, (omega arith, (omega arith, tt))))
+      (both-hold fs (appFields app) h (words-small app f, (omega arith, tt))) in
+      let e : fieldsAt record-of s 0 ≡ record-of = fields-back record-of s (app ++ rest) 0 holds here in
+      let l : length s ≡ 4 + size + 2 + length app + length rest = omega (arith, ap length here, laid-size record-of (app ++ rest), length-append app rest) in
+      let place : 4 + size + 2 ≡ 0 + widths record-of = omega arith in
       let d : List ℕ = (laid (fs ++ appFields app) ++ app) ++ rest in
       let n : length d ≡ size + 2 + length app + length rest = omega arith in
-      then-done (readHeader reply-of) (replyData fields size routing reply-of) (headed service success (length d))
-      (header-read-of-written service success d tt (omega arith))
-      ∙ then-done (appData reply-of (4 + size)) (λ len. done (succeeded (headed service success (length d)) (fields reply-of 4) (4 + size + 2) len)) (length app)
-      (app-back reply-of app (4 + size) f (omega arith) w)
-      ∙ rw (is, n)
-
--- ---- Forward Open
-
-pub record OpenBack (routing : Bool) (service : ℕ) (o : ForwardOpenSuccess) (app rest : List ℕ) : Type 0 where
-  pub read : readOpenReply routing (openReplyBytes service o app ++ rest)
-      ≡ done (succeeded (headed service success (26 + length app + length rest)) o 30 (length app))
-  pub app-is : part (openReplyBytes service o app ++ rest) 30 (length app) ≡ app
+      record {
+        read =
+            then-done _ _ (headed service success (length d)) (header-read-of-written service success d tt (omega arith))
+            ∙ then-done _ _ (length app) (app-back s app (4 + size) f (omega arith) (sym there ∙ ap (field i) e ∙ worth))
+            ∙ rw (sym got ∙ ap from e ∙ is, n);
+        app-is = part-front s app rest (4 + size + 2) (ap (λ (k : ℕ). drop k s) place ∙ past-laid s record-of (app ++ rest) 0 here);
+      }
 
 pub open-reply-read-of-written : (routing : Bool) (service : ℕ) (o : ForwardOpenSuccess) (app rest : List ℕ) → service < 256 → AllHold (openSuccessFields o) → AppFits app
-    → 30 + length app + length rest ≤ maxRecord → OpenBack routing service o app rest
-unfolding openReplyBytes nth worth
-open-reply-read-of-written routing service o app rest b h f small =
-    let fs : List Field = openSuccessFields o in
-    let F : List Field = record-of service fs app rest in
-    let s : List ℕ = reply-of service fs app rest in
-    let p : drop 0 s ≡ laid F ++ (app ++ rest) = here service fs app rest in
-    let e : fieldsAt F s 0 ≡ F = fields-back F s (app ++ rest) 0 (record-holds service fs app rest b h f) p in
-    let k : valueOf 4 (drop 4 s) ≡ o .«o_t_connection_id» = ap (nth 4) e in
-    let l : valueOf 4 (drop 8 s) ≡ o .«t_o_connection_id» = ap (nth 5) e in
-    let m : valueOf 2 (drop 12 s) ≡ o .«connection_serial_number» = ap (nth 6) e in
-    let n : valueOf 2 (drop 14 s) ≡ o .«originator_vendor_id» = ap (nth 7) e in
-    let q : valueOf 4 (drop 16 s) ≡ o .«originator_serial_number» = ap (nth 8) e in
-    let r : valueOf 4 (drop 20 s) ≡ o .«o_t_api» = ap (nth 9) e in
-    let t : valueOf 4 (drop 24 s) ≡ o .«t_o_api» = ap (nth 10) e in
-    let w : getD s 28 0 ≡ length app / 2 = ap (nth 11) e in
-    record {
-      read = success-back service fs app rest openSuccessAt 24 o routing f refl (omega (arith, reply-length service fs app rest)) w (rw (k, l, m, n, q, r, t));
-      app-is = part-front s app rest 30 (past-laid s F (app ++ rest) 0 p);
-    }
-
--- ---- Forward Close
-
-pub record CloseBack (routing : Bool) (service : ℕ) (c : ForwardCloseSuccess) (app rest : List ℕ) : Type 0 where
-  pub read : readCloseReply routing (closeReplyBytes service c app ++ rest)
-      ≡ done (succeeded (headed service success (10 + length app + length rest)) c 14 (length app))
-  pub app-is : part (closeReplyBytes service c app ++ rest) 14 (length app) ≡ app
+    → 30 + length app + length rest ≤ maxRecord → SuccessBack openSuccessAt 24 routing service o (openReplyBytes service o app) app rest
+unfolding openReplyBytes
+open-reply-read-of-written routing service o app rest =
+    success-back openSuccessAt 24 routing service o (openSuccessFields o) app rest
+    (λ fs. record {
+      «o_t_connection_id» = field 4 fs;
+      «t_o_connection_id» = field 5 fs;
+      «connection_serial_number» = field 6 fs;
+      «originator_vendor_id» = field 7 fs;
+      «originator_serial_number» = field 8 fs;
+      «o_t_api» = field 9 fs;
+      «t_o_api» = field 10 fs;
+    })
+    11 refl refl refl refl refl
 
 pub close-reply-read-of-written : (routing : Bool) (service : ℕ) (c : ForwardCloseSuccess) (app rest : List ℕ) → service < 256 → AllHold (closeSuccessFields c) → AppFits app
-    → 14 + length app + length rest ≤ maxRecord → CloseBack routing service c app rest
-unfolding closeReplyBytes nth worth
-close-reply-read-of-written routing service c app rest b h f small =
-    let fs : List Field = closeSuccessFields c in
-    let F : List Field = record-of service fs app rest in
-    let s : List ℕ = reply-of service fs app rest in
-    let p : drop 0 s ≡ laid F ++ (app ++ rest) = here service fs app rest in
-    let e : fieldsAt F s 0 ≡ F = fields-back F s (app ++ rest) 0 (record-holds service fs app rest b h f) p in
-    let k : valueOf 2 (drop 4 s) ≡ c .«connection_serial_number» = ap (nth 4) e in
-    let l : valueOf 2 (drop 6 s) ≡ c .«originator_vendor_id» = ap (nth 5) e in
-    let m : valueOf 4 (drop 8 s) ≡ c .«originator_serial_number» = ap (nth 6) e in
-    let w : getD s 12 0 ≡ length app / 2 = ap (nth 7) e in
-    record {
-      read = success-back service fs app rest closeSuccessAt 8 c routing f refl (omega (arith, reply-length service fs app rest)) w (rw (k, l, m));
-      app-is = part-front s app rest 14 (past-laid s F (app ++ rest) 0 p);
-    }
+    → 14 + length app + length rest ≤ maxRecord → SuccessBack closeSuccessAt 8 routing service c (closeReplyBytes service c app) app rest
+unfolding closeReplyBytes
+close-reply-read-of-written routing service c app rest =
+    success-back closeSuccessAt 8 routing service c (closeSuccessFields c) app rest
+    (λ fs. record { «connection_serial_number» = field 4 fs; «originator_vendor_id» = field 5 fs; «originator_serial_number» = field 6 fs })
+    7 refl refl refl refl refl
 
 -- ---- failure: read as it was written where the reader is told of a routing error exactly if the record has a remaining path size
 
@@ -160,7 +127,6 @@ fail-wide f = go (f .«remaining_path_size»)
 
 fail-back : (s rest : List ℕ) (at : ℕ) (f : ForwardRequestFail) → AllHold (failureFields f) → drop at s ≡ laid (failureFields f) ++ rest
     → failAt (hasSize (f .«remaining_path_size»)) s at ≡ f
-unfolding nth worth
 fail-back s rest at f = go (f .«connection_serial_number») (f .«originator_vendor_id») (f .«originator_serial_number») (f .«remaining_path_size»)
   where
     go : (a b c : ℕ) (x : RemainingPathSize) → AllHold (triad a b c ++ remainingFields x) → drop at s ≡ laid (triad a b c ++ remainingFields x) ++ rest
@@ -169,17 +135,17 @@ fail-back s rest at f = go (f .«connection_serial_number») (f .«originator_ve
     go a b c x h p =
         let F : List Field = triad a b c ++ remainingFields x in
         let e : fieldsAt F s at ≡ F = fields-back F s rest at h p in
-        let i : valueOf 2 (drop at s) ≡ a = ap (nth 0) e in
-        let j : valueOf 2 (drop (at + 2) s) ≡ b = ap (nth 1) e in
+        let i : valueOf 2 (drop at s) ≡ a = ap (field 0) e in
+        let j : valueOf 2 (drop (at + 2) s) ≡ b = ap (field 1) e in
         let n : at + 4 ≡ at + 2 + 2 = omega arith in
-        let k : valueOf 4 (drop (at + 4) s) ≡ c = ap (λ (q : ℕ). valueOf 4 (drop q s)) n ∙ ap (nth 2) e in
+        let k : valueOf 4 (drop (at + 4) s) ≡ c = ap (λ (q : ℕ). valueOf 4 (drop q s)) n ∙ ap (field 2) e in
         rw (i, j, k, remaining x e)
       where
         remaining : (y : RemainingPathSize) → fieldsAt (triad a b c ++ remainingFields y) s at ≡ triad a b c ++ remainingFields y → remainingAt (hasSize y) s at ≡ y
         remaining Absent e = refl
         remaining (Words w) e =
             let n : at + 8 ≡ at + 2 + 2 + 4 = omega arith in
-            ap (λ (q : ℕ). Words (getD s q 0)) n ∙ ap (λ (l : List Field). Words (nth 3 l)) e
+            ap (λ (q : ℕ). Words (getD s q 0)) n ∙ ap (λ (l : List Field). Words (field 3 l)) e
 
 -- the failure and whatever follows
 module _ (service : ℕ) (st : Status) (f : ForwardRequestFail) (rest : List ℕ) where

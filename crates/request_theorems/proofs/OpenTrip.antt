@@ -8,10 +8,10 @@ use lib.ListN.{length, getD, drop}
 use Rattle.wire.specs.Numbers.{valueOf, Bytes}
 use Rattle.wire.specs.Parts.{part}
 use Rattle.wire.specs.Answers.{Answer, done, andThen, under, judged}
-use Rattle.wire.specs.Records.{Field, byte, num, laid, widths, AllHold, fieldsAt}
+use Rattle.wire.specs.Records.{Field, laid, widths, AllHold, fieldsAt}
 use Rattle.wire.proofs.Numbers.{value-small, bytes-drop}
 use Rattle.wire.proofs.Rules.{all-keep, all-were, then-were, then-done}
-use Rattle.wire.proofs.Records.{fields-back, fields-again, laid-size, past-laid}
+use Rattle.wire.proofs.Records.{field, fields-back, fields-were, laid-size, past-laid}
 use Rattle.connection.specs.Limits.{sizeLimit}
 use Rattle.connection_words.specs.Fields.{Transport, transport, wordOf, readParameters, classTrigger, readTransport}
 use Rattle.connection_words.specs.Requests.{words, parameterWidth, openHead, openRest, openBytes}
@@ -23,7 +23,8 @@ use Rattle.connection.specs.declared.TransportClass.{TransportClass}
 use Rattle.message_read.specs.Reads.{mostTicks, firstRules, routeAt}
 use Rattle.forward_read.specs.Reads.{Opened, opened, openRules, secondPlace, transportPlace, parametersAt, transportAt, optionsAt, openEnd, openBehind, readOpen}
 use Rattle.connection_words.proofs.Words.{word-holds, parameters-read-of-written, WordWas, parameters-written-of-read, trigger-holds, transport-read-of-written, transport-written-of-read}
-use Rattle.request_theorems.proofs.Routes.{Route, words-small, route-back, PathWas, RouteWas, route-was, words-was, route-again}
+use Rattle.message_read.proofs.ReadLaws.{PathWas}
+use Rattle.request_theorems.proofs.Routes.{Route, words-small, route-back, RouteWas, route-was, words-was, route-again}
 use Rattle.wire.proofs.Stores.{part-end, part-last}
 
 width-most : (large : Bool) → parameterWidth large ≤ 4
@@ -64,14 +65,6 @@ transport-back o s at h e =
 pub record OpenBack (o : OpenOptions) (path s : List ℕ) : Type 0 where
   pub read : readOpen (o .«large_open») s ≡ done (opened o (transportPlace (o .«large_open») + 2) (length path))
   pub path-is : part s (transportPlace (o .«large_open») + 2) (length path) ≡ path
-
--- a field's number, by its place in the list of fields
-abbrev numberIn : Field → ℕ
-numberIn (byte v) = v
-numberIn (num k v) = v
-
-abbrev field : ℕ → List Field → ℕ
-field i fs = numberIn (getD fs i (byte 0))
 
 -- s is what the fields and the path are laid out as
 open-back : (o : OpenOptions) (path s : List ℕ) → OpenFits o → Route path → s ≡ laid (openHead o) ++ (laid (openRest o (words path)) ++ path) → OpenBack o path s
@@ -169,19 +162,11 @@ open-was large s a b d t c n bs ticks reserved wa wb trigger route =
     let t′ : getD s (secondPlace large + 4 + k) 0 ≡ classTrigger o = rw place (sym trigger) in
     let a′ : valueOf k (drop 26 s) ≡ wordOf large a = sym (wa .word) in
     let b′ : valueOf k (drop (secondPlace large + 4) s) ≡ wordOf large b = sym (wb .word) in
-    let head : fieldsAt (openHead o) s 0 ≡ openHead o = rw reserved in
-    let rest : fieldsAt (openRest o 0) s 22 ≡ openRest o (words path) = rw (a′, b′, t′, w′) in
-    let end : 22 + widths (openRest o 0) ≡ at + 2 = omega arith in
     let tail : drop 22 s ≡ laid (openRest o (words path)) ++ path
-    = sym (fields-again (openRest o 0) s 22 bs (omega arith))
-    ∙ ap (λ (j : ℕ). laid (fieldsAt (openRest o 0) s 22) ++ drop j s) end
-    ∙ ap (λ (l : List Field). laid l ++ drop (at + 2) s) rest
-    ∙ ap (λ (l : List ℕ). laid (openRest o (words path)) ++ l) (sym (part-last s (at + 2) n (omega arith))) in
+    = fields-were (openRest o 0) (openRest o (words path)) s path 22 (at + 2) bs (omega arith) (omega arith) (rw (a′, b′, t′, w′))
+    (sym (part-last s (at + 2) n (omega arith))) in
     record {
-      bytes =
-          sym (fields-again (openHead o) s 0 bs (omega arith))
-          ∙ ap (λ (l : List Field). laid l ++ drop 22 s) head
-          ∙ ap (λ (l : List ℕ). laid (openHead o) ++ l) tail;
+      bytes = fields-were (openHead o) (openHead o) s _ 0 22 bs refl (omega arith) (rw reserved) tail;
       form = refl;
       fits = record {
         ticks = ticks;

@@ -27,6 +27,14 @@ use Rattle.request_sizes.specs.Sizes.{messageSize, sendSize}
 use Rattle.message_encode.specs.Over.{messageOverSize}
 use Rattle.send_encode.specs.Over.{sendOverSize}
 
+-- writers of the same bytes, the one sized as x and the other as y: one answer, and one content of the output
+abbrev pub Alike : Answer ℕ → Answer ℕ → List ℕ → List ℕ → Type 0
+Alike x y bytes old =
+    (withRoom x (length old) ≡ withRoom y (length old)) × (written (withRoom x (length old)) bytes old ≡ written (withRoom y (length old)) bytes old)
+
+alike : (x y : Answer ℕ) (bytes old : List ℕ) → x ≡ y → Alike x y bytes old
+alike x y bytes old e = (rw e, rw e)
+
 -- a list that is sized, whose numbers are such as the code's types hold
 module _ (pool : List ℕ) (p : Path) (n : ℕ) (ranged : AllRanged (slotsOf p)) (h : routeSize pool p ≡ done n) where
   abbrev pub bytesOf : List ℕ
@@ -69,17 +77,9 @@ module _ (pool : List ℕ) (p : Path) (n : ℕ) (ranged : AllRanged (slotsOf p))
 
   -- so the answer and what is left are the same
   pub message-over-same : (service : ℕ) (content old : List ℕ)
-      → (withRoom (messageOverSize bytesOf (length content)) (length old) ≡ withRoom (messageSize pool p (length content)) (length old))
-      × (written (withRoom (messageOverSize bytesOf (length content)) (length old)) (messageBytes service bytesOf content) old
-      ≡ written (withRoom (messageSize pool p (length content)) (length old)) (messageBytes service bytesOf content) old)
-  message-over-same service content old =
-      let e = message-size-same (length content) in
-      (ap (λ (x : Answer ℕ). withRoom x (length old)) e, ap (λ (x : Answer ℕ). written (withRoom x (length old)) (messageBytes service bytesOf content) old) e)
+      → Alike (messageOverSize bytesOf (length content)) (messageSize pool p (length content)) (messageBytes service bytesOf content) old
+  message-over-same service content old = alike _ _ (messageBytes service bytesOf content) old (message-size-same (length content))
 
   pub send-over-same : (u : UnconnectedSend) (message old : List ℕ)
-      → (withRoom (sendOverSize bytesOf (length message)) (length old) ≡ withRoom (sendSize pool p (length message)) (length old))
-      × (written (withRoom (sendOverSize bytesOf (length message)) (length old)) (sendBytes u message bytesOf) old
-      ≡ written (withRoom (sendSize pool p (length message)) (length old)) (sendBytes u message bytesOf) old)
-  send-over-same u message old =
-      let e = send-size-same (length message) in
-      (ap (λ (x : Answer ℕ). withRoom x (length old)) e, ap (λ (x : Answer ℕ). written (withRoom x (length old)) (sendBytes u message bytesOf) old) e)
+      → Alike (sendOverSize bytesOf (length message)) (sendSize pool p (length message)) (sendBytes u message bytesOf) old
+  send-over-same u message old = alike _ _ (sendBytes u message bytesOf) old (send-size-same (length message))

@@ -10,7 +10,7 @@ use Rattle.wire.specs.Answers.{done, andThen, under, over, judged}
 use Rattle.wire.specs.Records.{Field, laid, widths, AllHold, fieldsAt}
 use Rattle.wire.proofs.Numbers.{value-low, value-small, bytes-drop, some-power}
 use Rattle.wire.proofs.Rules.{done-same, all-keep, all-were, then-were, then-done}
-use Rattle.wire.proofs.Records.{fields-back, fields-again, laid-size, past-laid}
+use Rattle.wire.proofs.Records.{fields-back, fields-were, laid-size, past-laid}
 use Rattle.wire.proofs.Stores.{part-length, past-part, part-front, part-end, part-split, part-last}
 use Rattle.connection.specs.Limits.{maxRecord}
 use Rattle.connection_words.specs.Requests.{words, messageFields, messageBytes, closeFields, closeBytes, sendHead, sendRest, sendBytes}
@@ -20,7 +20,8 @@ use Rattle.message_read.specs.declared.MessageRequest.{MessageRequest}
 use Rattle.message_read.specs.Reads.{mostTicks, firstRules, pathBytes, pathAt, paddedRouteAt, messageAt, readMessage}
 use Rattle.forward_read.specs.Reads.{closed, closeAt, readClose}
 use Rattle.request.specs.Reads.{sent, sendAt, messageEnd, messageRules, sendBehind, readSend}
-use Rattle.request_theorems.proofs.Routes.{Route, words-small, size-back, path-back, padded-back, SizeWas, size-was, PathWas, path-was, PaddedWas, padded-was, words-was, route-again}
+use Rattle.message_read.proofs.ReadLaws.{SizeWas, size-was, PathWas, path-was}
+use Rattle.request_theorems.proofs.Routes.{Route, words-small, size-back, path-back, padded-back, PaddedWas, padded-was, words-was, route-again}
 
 -- ---- message
 
@@ -48,9 +49,9 @@ message-read-of-written service path content r small =
     let d : length s - (2 + length path) ≡ length content = omega arith in
     record {
       read =
-          all-keep (over (length s) maxRecord 3 ∷ []) (andThen (pathBytes s 1) (λ len. andThen (pathAt s 2 len) (λ n. done (messageAt s len)))) (omega arith, tt)
-          ∙ then-done (pathBytes s 1) (λ len. andThen (pathAt s 2 len) (λ n. done (messageAt s len))) (length path) (size-back s path 1 r (omega arith) refl)
-          ∙ then-done (pathAt s 2 (length path)) (λ n. done (messageAt s (length path))) (r .count) (path-back s path 2 r (omega arith) p)
+          all-keep _ _ (omega arith, tt)
+          ∙ then-done _ _ (length path) (size-back s path 1 r (omega arith) refl)
+          ∙ then-done _ _ (r .count) (path-back s path 2 r (omega arith) p)
           ∙ rw d;
       path-is = p;
       data-is = part-end s content (2 + length path) (past-part s path content 2 refl);
@@ -79,9 +80,8 @@ message-written-of-read s m b h =
     rw (← f)
     (record {
       bytes =
-          sym (fields-again (messageFields 0 0) s 0 b (omega (arith, z .here)))
-          ∙ ap (λ (l : List ℕ). laid (messageFields (getD s 0 0) (getD s 1 0)) ++ l) tail
-          ∙ ap (λ (k : ℕ). laid (messageFields (getD s 0 0) k) ++ (part s 2 len ++ rest)) (sym (words-was s 1 2 len z p));
+          fields-were (messageFields 0 0) (messageFields (getD s 0 0) (words (part s 2 len))) s (part s 2 len ++ rest) 0 2 b refl (omega (arith, z .here))
+          (rw (words-was s 1 2 len z p)) tail;
       path = p;
       route = route-again s 2 len b (z .short) p;
       small = u .0 .0;
@@ -143,13 +143,11 @@ close-written-of-read s c start len b h =
     let t : getD s 0 0 ≤ mostTicks = u .0 .1 .1 .0 in
     let z : getD s 11 0 ≡ 0 = w .reserved in
     let d : words (part s 12 n) ≡ getD s 10 0 = words-was s 10 12 n (w .route .sized) p in
-    let same : fieldsAt (closeFields (closeAt s) 0) s 0 ≡ closeFields (closeAt s) (words (part s 12 n)) = rw (z, d) in
     rw (← f, ← g, ← k)
     (record {
       bytes =
-          sym (fields-again (closeFields (closeAt s) 0) s 0 b (omega (arith, p .here)))
-          ∙ ap (λ (l : List Field). laid l ++ drop 12 s) same
-          ∙ ap (λ (l : List ℕ). laid (closeFields (closeAt s) (words (part s 12 n))) ++ l) (sym (part-last s 12 n (omega (arith, w .route .whole))));
+          fields-were (closeFields (closeAt s) 0) (closeFields (closeAt s) (words (part s 12 n))) s (part s 12 n) 0 12 b refl (omega (arith, p .here)) (rw (z, d))
+          (sym (part-last s 12 n (omega (arith, w .route .whole))));
       fits = record {
         ticks = t;
         timeout = b 1;
@@ -229,16 +227,11 @@ send-was s q n b small t l is here pad w =
     let d : words path ≡ getD s (messageEnd q) 0 = words-was s (messageEnd q) (messageEnd q + 2) n (w .route .sized) p in
     let long : length (part s 4 q) ≡ q = part-length s 4 q (omega arith) in
     let place : 4 + q + widths (sendRest q 0) ≡ messageEnd q + 2 = omega arith in
-    let same : fieldsAt (sendRest q 0) s (4 + q) ≡ sendRest q (words path) = rw (pad, z, d) in
     let last : drop (4 + q) s ≡ laid (sendRest q (words path)) ++ path
-    = sym (fields-again (sendRest q 0) s (4 + q) b (omega (arith, p .here)))
-    ∙ ap (λ (k : ℕ). laid (fieldsAt (sendRest q 0) s (4 + q)) ++ drop k s) place
-    ∙ ap (λ (l : List Field). laid l ++ drop (messageEnd q + 2) s) same
-    ∙ ap (λ (l : List ℕ). laid (sendRest q (words path)) ++ l) (sym (part-last s (messageEnd q + 2) n (omega (arith, w .route .whole)))) in
+    = fields-were (sendRest q 0) (sendRest q (words path)) s path (4 + q) (messageEnd q + 2) b place (omega (arith, p .here)) (rw (pad, z, d))
+    (sym (part-last s (messageEnd q + 2) n (omega (arith, w .route .whole)))) in
     let whole : s ≡ laid (sendHead (sendAt s) q) ++ (part s 4 q ++ (laid (sendRest q (words path)) ++ path))
-    = sym (fields-again (sendHead (sendAt s) q) s 0 b l)
-    ∙ ap (λ (k : ℕ). laid (sendHead (sendAt s) k) ++ drop 4 s) (sym is)
-    ∙ ap (λ (l : List ℕ). laid (sendHead (sendAt s) q) ++ l) (part-split s 4 q ∙ ap (λ (l : List ℕ). part s 4 q ++ l) last) in
+    = fields-were (sendHead (sendAt s) q) (sendHead (sendAt s) q) s _ 0 4 b refl l (rw (← is)) (part-split s 4 q ∙ ap (λ (l : List ℕ). part s 4 q ++ l) last) in
     record {
       bytes = whole ∙ ap (λ (k : ℕ). laid (sendHead (sendAt s) k) ++ (part s 4 q ++ (laid (sendRest k (words path)) ++ path))) (sym long);
       fits = record { ticks = t; timeout = b 1 };

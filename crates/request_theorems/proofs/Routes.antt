@@ -1,6 +1,6 @@
 -- What requests share, both ways: what is laid out in a row, and the path behind a size byte. Assumes nothing.
 use Prim.Native.Nat.{ℕ, _+_, _*_, _%_, _≤_, _<_}
-use mathlib.Core.Path.{_≡_, sym, ap, _∙_}
+use mathlib.Core.Path.{_≡_, ap, _∙_}
 use mathlib.Core.List.{List, [], _∷_}
 use native.Mathlib.Omega.{arith}
 use lib.ListN.{length, getD}
@@ -15,6 +15,7 @@ use Rattle.epath.proofs.Theorems.{checked-even}
 use Rattle.connection.specs.Limits.{maxPath}
 use Rattle.connection_words.specs.Requests.{words}
 use Rattle.message_read.specs.Reads.{pathBytes, pathAt, lastPath, routeAt, paddedRouteAt}
+use Rattle.message_read.proofs.ReadLaws.{SizeWas, size-was, PathWas, path-was}
 
 -- ---- a path that may stand behind a size byte
 
@@ -70,33 +71,7 @@ padded-back s path at r h w z e =
 
 -- ---- written of read
 
--- a size byte that was read
-pub record SizeWas (s : List ℕ) (at len : ℕ) : Type 0 where
-  pub here : at + 1 ≤ length s
-  pub is : len ≡ 2 * getD s at 0
-  pub short : len ≤ maxPath
-
-pub size-was : (s : List ℕ) (at len : ℕ) → pathBytes s at ≡ done len → SizeWas s at len
-unfolding pathBytes
-size-was s at len h =
-    let u = all-were (under (length s) (at + 1) 1 ∷ over (2 * getD s at 0) maxPath 3 ∷ []) (done (2 * getD s at 0)) len h in
-    let f : 2 * getD s at 0 ≡ len = done-same (u .1) in
-    let k : 2 * getD s at 0 ≤ maxPath = u .0 .1 .0 in
-    record { here = u .0 .0; is = sym f; short = omega arith }
-
--- a path that was judged
-pub record PathWas (s : List ℕ) (at len : ℕ) : Type 0 where
-  pub here : at + len ≤ length s
-  pub count : ℕ
-  pub checked : checkPath (part s at len) ≡ done count
-
-pub path-was : (s : List ℕ) (at len n : ℕ) → pathAt s at len ≡ done n → PathWas s at len
-unfolding pathAt
-path-was s at len n h =
-    let u = all-were (under (length s) (at + len) 1 ∷ []) (checkPath (part s at len)) n h in
-    record { here = u .0 .0; count = n; checked = u .1 }
-
--- the same at the end of its record, behind the size byte at a place
+-- a path that was judged at the end of its record, behind the size byte at a place
 pub record RouteWas (s : List ℕ) (size at len : ℕ) : Type 0 where
   pub sized : SizeWas s size len
   pub path : PathWas s at len

@@ -69,6 +69,11 @@ fields-again (f ∷ fs) s at b h =
     ∙ ap (λ (l : List ℕ). take (width f) (drop at s) ++ l) (sym (drop-drop (width f) at s))
     ∙ take-append-drop (width f) (drop at s)
 
+-- the same, of fields that were read as others and of what follows them
+pub fields-were : (fs gs : List Field) (s rest : List ℕ) (at to : ℕ) → Bytes s → at + widths fs ≡ to → to ≤ length s → fieldsAt fs s at ≡ gs → drop to s ≡ rest
+    → drop at s ≡ laid gs ++ rest
+fields-were fs gs s rest at to b e h same r = sym (fields-again fs s at b (omega arith)) ∙ rw (e, same, r)
+
 -- ---- a writer that stores field after field, each where the one before it ends
 pub laid-more : (fs : List Field) (f : Field) (old a b : List ℕ) (n at : ℕ) → a ≡ sets old n (laid fs) → at ≡ n + widths fs → b ≡ sets a at (bytesOf f)
     → b ≡ sets old n (laid (fs ++ (f ∷ [])))

@@ -1,6 +1,8 @@
 -- `envelope::connected_at` meets its contract. Assumes nothing.
+--: use Rattle.wire.proofs.Rules.{rules}
 --: use Rattle.envelope.proofs.ReadLaws.{two-laws}
---: * = search (two-laws, needs) fits 5000
+--: * = search (two-laws, rules, needs) fits 5000
+use Rattle.wire.proofs.Rules.{rules}
 use Rattle.envelope.proofs.ReadLaws.{two-laws}
 use borrow.Author.Needs.{needs}
 use Rattle.envelope.proofs.connected_at.Statement.{statement}
@@ -16,10 +18,10 @@ enum-known-address : tie.Need-enum-known-address
 enum-known-address c = search needs
 
 add-item-at : tie.Need-add-item-at
-add-item-at c = search (two-laws, needs) fits 5000
+add-item-at c = search (two-laws, rules, needs) fits 5000
 
 item-at-requires-2 : tie.Need-item-at-requires-2
-item-at-requires-2 c κs = search (two-laws, needs) fits 5000
+item-at-requires-2 c κs = search (two-laws, rules, needs) fits 5000
 
 enum-known-e-2 : tie.Need-enum-known-e-2
 enum-known-e-2 c = search needs
@@ -28,31 +30,31 @@ enum-known-len : tie.Need-enum-known-len
 enum-known-len c = search needs
 
 add-start : tie.Need-add-start
-add-start c = search (two-laws, needs) fits 5000
+add-start c = search (two-laws, rules, needs) fits 5000
 
 returns : tie.Need-returns
-returns c = search (two-laws, needs) fits 5000
+returns c = search (two-laws, rules, needs) fits 5000
 
 add-if2 : tie.Need-add-if2
-add-if2 c = search (two-laws, needs) fits 5000
+add-if2 c = search (two-laws, rules, needs) fits 5000
 
 returns-2 : tie.Need-returns-2
-returns-2 c = search (two-laws, needs) fits 5000
+returns-2 c = search (two-laws, rules, needs) fits 5000
 
 u16-at-requires : tie.Need-u16-at-requires
 u16-at-requires c κs = search needs
 
 add-t15 : tie.Need-add-t15
-add-t15 c = search (two-laws, needs) fits 5000
+add-t15 c = search (two-laws, rules, needs) fits 5000
 
 returns-3 : tie.Need-returns-3
-returns-3 c = search (two-laws, needs) fits 5000
+returns-3 c = search (two-laws, rules, needs) fits 5000
 
 returns-4 : tie.Need-returns-4
-returns-4 c = search (two-laws, needs) fits 5000
+returns-4 c = search (two-laws, rules, needs) fits 5000
 
 returns-5 : tie.Need-returns-5
-returns-5 c = search (two-laws, needs) fits 5000
+returns-5 c = search (two-laws, rules, needs) fits 5000
 
 pub connected-at-spec : {M : Type 1} → statement M
 connected-at-spec =
