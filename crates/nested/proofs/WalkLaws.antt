@@ -266,7 +266,10 @@ module _ (s : List ℕ) (left n rest at next : ℕ) (l l′ : List ℕ) (h : Tur
               body = h .body;
               most = omega (arith, h .most);
               acc = h .acc ++ v .them;
-              spec = left-over ∙ rw (v .found) (onto-onto (h .acc) (v .them) _);
+              spec =
+                  left-over
+                  ∙ ap (λ (w : Answer (List Row)). onto (h .acc) (andThen w (λ rs. onto rs (inOrder (λ x. listed left x) (itemsFrom (rest - 1) s n (n - (rest - 1))))))) (v .found)
+                  ∙ onto-onto (h .acc) (v .them) (inOrder (λ x. listed left x) (itemsFrom (rest - 1) s n (n - (rest - 1))));
               place = omega (arith, v .ends, h .place, length-append (h .acc) (v .them));
               has = then-rows l l′ l″ (h .acc) (v .them) at next (h .has) (h .place) w;
               same = ap length w ∙ length-sets l′ (rowSize * next) (joined rowValues (v .them)) ∙ h .same;

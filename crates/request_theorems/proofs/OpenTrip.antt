@@ -1,16 +1,16 @@
 -- The reader of Forward Open and the bytes that its writer makes are each other's, once over small and large. Assumes nothing.
 use Prim.Native.Nat.{ℕ, _+_, _≤_, _<_}
 use mathlib.Core.Path.{_≡_, refl, sym, ap, _∙_}
-use mathlib.Core.List.{List, [], _∷_, _++_}
+use mathlib.Core.List.{List, _++_}
 use mathlib.Core.Bool.{Bool, true, false}
 use native.Mathlib.Omega.{arith}
 use lib.ListN.{length, getD, drop}
 use Rattle.wire.specs.Numbers.{valueOf, Bytes}
 use Rattle.wire.specs.Parts.{part}
-use Rattle.wire.specs.Answers.{Answer, done, andThen, under, judged}
+use Rattle.wire.specs.Answers.{Answer, done, andThen}
 use Rattle.wire.specs.Records.{Field, laid, widths, AllHold, fieldsAt}
 use Rattle.wire.proofs.Numbers.{value-small, bytes-drop}
-use Rattle.wire.proofs.Rules.{all-keep, all-were, then-were, then-done}
+use Rattle.wire.proofs.Rules.{done-same, all-keep, all-were, then-were, then-done}
 use Rattle.wire.proofs.Records.{field, fields-back, fields-were, laid-size, past-laid}
 use Rattle.connection.specs.Limits.{sizeLimit}
 use Rattle.connection_words.specs.Fields.{Transport, transport, wordOf, readParameters, classTrigger, readTransport}
@@ -20,8 +20,8 @@ use Rattle.connection.specs.declared.OpenOptions.{OpenOptions}
 use Rattle.connection.specs.declared.Direction.{Direction}
 use Rattle.connection.specs.declared.TriggerType.{TriggerType}
 use Rattle.connection.specs.declared.TransportClass.{TransportClass}
-use Rattle.message_read.specs.Reads.{mostTicks, firstRules, routeAt}
-use Rattle.forward_read.specs.Reads.{Opened, opened, openRules, secondPlace, transportPlace, parametersAt, transportAt, optionsAt, openEnd, openBehind, readOpen}
+use Rattle.message_read.specs.Reads.{mostTicks, routeAt}
+use Rattle.forward_read.specs.Reads.{Opened, opened, secondPlace, transportPlace, parametersAt, transportAt, optionsAt, openEnd, openBehind, readOpen}
 use Rattle.connection_words.proofs.Words.{word-holds, parameters-read-of-written, WordWas, parameters-written-of-read, trigger-holds, transport-read-of-written, transport-written-of-read}
 use Rattle.message_read.proofs.ReadLaws.{PathWas}
 use Rattle.request_theorems.proofs.Routes.{Route, words-small, route-back, RouteWas, route-was, words-was, route-again}
@@ -52,7 +52,7 @@ parameters-back : (large : Bool) (s : List ℕ) (at : ℕ) (p : ConnectionParame
     → valueOf (parameterWidth large) (drop at s) ≡ wordOf large p → parametersAt large s at ≡ done p
 unfolding parametersAt
 parameters-back large s at p small h e =
-    all-keep (under (length s) (at + parameterWidth large) 1 ∷ []) (readParameters large (valueOf (parameterWidth large) (drop at s))) (h, tt)
+    all-keep _ _ (h, tt)
     ∙ ap (readParameters large) e
     ∙ parameters-read-of-written large p small
 
@@ -60,7 +60,7 @@ transport-back : (o : OpenOptions) (s : List ℕ) (at : ℕ) → at + 1 ≤ leng
     → transportAt s at ≡ done (transport (o .«transport_direction») (o .«transport_trigger») (o .«transport_class»))
 unfolding transportAt
 transport-back o s at h e =
-    all-keep (under (length s) (at + 1) 1 ∷ []) (readTransport (getD s at 0)) (h, tt) ∙ ap readTransport e ∙ transport-read-of-written o
+    all-keep _ _ (h, tt) ∙ ap readTransport e ∙ transport-read-of-written o
 
 pub record OpenBack (o : OpenOptions) (path s : List ℕ) : Type 0 where
   pub read : readOpen (o .«large_open») s ≡ done (opened o (transportPlace (o .«large_open») + 2) (length path))
@@ -112,16 +112,12 @@ open-back o path s t r is =
     let same : optionsAt large s (o .«o_t_params») (o .«t_o_params») way ≡ o = rw (e0, e1, e2, e3, e4, e5, e6, e7, f0, f2) in
     record {
       read =
-          all-keep (firstRules s) (judged (openRules s) (openBehind large s)) (omega (arith, r .short), (omega arith, (rw e0 (t .ticks), tt)))
-          ∙ all-keep (openRules s) (openBehind large s) (omega arith, (e8, tt))
-          ∙ then-done (parametersAt large s 26) (λ a. andThen (parametersAt large s (secondPlace large + 4)) (λ b. openEnd large s a b)) (o .«o_t_params»)
-          (parameters-back large s 26 (o .«o_t_params») (t .target-size) (omega arith) f1)
-          ∙ then-done (parametersAt large s (secondPlace large + 4)) (λ b. openEnd large s (o .«o_t_params») b) (o .«t_o_params»)
-          (parameters-back large s (secondPlace large + 4) (o .«t_o_params») (t .originator-size) (omega arith) f3)
-          ∙ then-done (transportAt s at) (λ y. andThen (routeAt s (at + 1)) (λ len. done (opened (optionsAt large s (o .«o_t_params») (o .«t_o_params») y) (at + 2) len))) way
-          (transport-back o s at (omega arith) g4)
-          ∙ then-done (routeAt s (at + 1)) (λ len. done (opened (optionsAt large s (o .«o_t_params») (o .«t_o_params») way) (at + 2) len)) (length path)
-          (route-back s path (at + 1) r (omega arith) g5 q)
+          all-keep _ _ (omega (arith, r .short), (omega arith, (rw e0 (t .ticks), tt)))
+          ∙ all-keep _ _ (omega arith, (e8, tt))
+          ∙ then-done _ _ (o .«o_t_params») (parameters-back large s 26 (o .«o_t_params») (t .target-size) (omega arith) f1)
+          ∙ then-done _ _ (o .«t_o_params») (parameters-back large s (secondPlace large + 4) (o .«t_o_params») (t .originator-size) (omega arith) f3)
+          ∙ then-done _ _ way (transport-back o s at (omega arith) g4)
+          ∙ then-done _ _ (length path) (route-back s path (at + 1) r (omega arith) g5 q)
           ∙ ap (λ (x : OpenOptions). done (opened x (at + 2) (length path))) same;
       path-is = p;
     }
@@ -189,13 +185,13 @@ open-was large s a b d t c n bs ticks reserved wa wb trigger route =
 parameters-were : (large : Bool) (s : List ℕ) (at : ℕ) (p : ConnectionParameters) → parametersAt large s at ≡ done p → WordWas large (valueOf (parameterWidth large) (drop at s)) p
 unfolding parametersAt
 parameters-were large s at p h =
-    let u = all-were (under (length s) (at + parameterWidth large) 1 ∷ []) (readParameters large (valueOf (parameterWidth large) (drop at s))) p h in
+    let u = all-were _ _ p h in
     parameters-written-of-read large (valueOf (parameterWidth large) (drop at s)) p (u .1)
 
 transport-was : (s : List ℕ) (at : ℕ) (o : OpenOptions) → Bytes s → transportAt s at ≡ done (transport (o .«transport_direction») (o .«transport_trigger») (o .«transport_class»)) → classTrigger o ≡ getD s at 0
 unfolding transportAt
 transport-was s at o b h =
-    let u = all-were (under (length s) (at + 1) 1 ∷ []) (readTransport (getD s at 0)) (transport (o .«transport_direction») (o .«transport_trigger») (o .«transport_class»)) h in
+    let u = all-were _ _ (transport (o .«transport_direction») (o .«transport_trigger») (o .«transport_class»)) h in
     transport-written-of-read o (getD s at 0) (b at) (u .1)
 
 open-same : (large : Bool) (s : List ℕ) {o p : OpenOptions} {a b c d : ℕ} → o ≡ p → a ≡ b → c ≡ d → OpenWas large s o a c → OpenWas large s p b d
@@ -210,11 +206,11 @@ end-was : (large : Bool) (s : List ℕ) (a b : ConnectionParameters) (o : OpenOp
 end-was large s a b o start len bs ticks reserved wa wb (transport d t c) is h =
     let at : ℕ = transportPlace large in
     let x : OpenOptions = optionsAt large s a b (transport d t c) in
-    let v = then-were (routeAt s (at + 1)) (λ n. done (opened x (at + 2) n)) (opened o start len) h in
+    let v = then-were _ _ (opened o start len) h in
     let n : ℕ = v .found in
     let w : OpenWas large s x (at + 2) n
     = open-was large s a b d t c n bs ticks reserved wa wb (transport-was s at x bs is) (route-was s (at + 1) n (v .is)) in
-    let e : done (opened x (at + 2) n) ≡ done (opened o start len) = v .then in
+    let e = done-same (v .then) in
     let e1 : x ≡ o = cc in
     let e2 : at + 2 ≡ start = cc in
     let e3 : n ≡ len = cc in
@@ -226,10 +222,10 @@ open-written-of-read large s o start len b h =
     let at : ℕ = transportPlace large in
     let y : Opened = opened o start len in
     let second : ConnectionParameters → Answer Opened = λ p. andThen (parametersAt large s (secondPlace large + 4)) (λ q. openEnd large s p q) in
-    let u = all-were (firstRules s) (judged (openRules s) (openBehind large s)) y h in
-    let v = all-were (openRules s) (openBehind large s) y (u .1) in
-    let p = then-were (parametersAt large s 26) second y (v .1) in
-    let q = then-were (parametersAt large s (secondPlace large + 4)) (λ q. openEnd large s (p .found) q) y (p .then) in
-    let r = then-were (transportAt s at) (λ t. andThen (routeAt s (at + 1)) (λ n. done (opened (optionsAt large s (p .found) (q .found) t) (at + 2) n))) y (q .then) in
+    let u = all-were _ _ y h in
+    let v = all-were _ _ y (u .1) in
+    let p = then-were _ _ y (v .1) in
+    let q = then-were _ _ y (p .then) in
+    let r = then-were _ _ y (q .then) in
     end-was large s (p .found) (q .found) o start len b (u .0 .1 .1 .0) (v .0 .1 .0)
     (parameters-were large s 26 (p .found) (p .is)) (parameters-were large s (secondPlace large + 4) (q .found) (q .is)) (r .found) (r .is) (r .then)

@@ -1,10 +1,10 @@
 -- The writers over a written path answer and leave what the writers over a list do, where the path is that list's bytes. Assumes nothing.
-use Prim.Native.Nat.{ℕ, _+_, _%_}
+use Prim.Native.Nat.{ℕ, _+_}
 use mathlib.Core.Path.{_≡_, refl, sym, ap, _∙_}
-use mathlib.Core.List.{List, [], _∷_, map}
+use mathlib.Core.List.{List, map}
 use native.Mathlib.Omega.{arith}
 use lib.ListN.{length}
-use Rattle.wire.specs.Answers.{Answer, done, refused, over, andThen, withRoom, written, withinLimit}
+use Rattle.wire.specs.Answers.{Answer, done, refused, andThen, withRoom, written, withinLimit}
 use Rattle.wire.proofs.Rules.{never, all-keep, then-done}
 use Rattle.wire.proofs.Answers.{room-kept}
 use Rattle.epath_sizes.specs.Limits.{maxSegments}
@@ -17,7 +17,7 @@ use Rattle.epath_sizes.proofs.PathLaws.{PathSized, path-sized}
 use Rattle.epath_encode.proofs.Theorems.{answerOf, left-front}
 use Rattle.epath.specs.Paths.{walk, countOf, checkPath, sees, parsePath}
 use Rattle.epath.proofs.Theorems.{AllRanged, write-then-read}
-use Rattle.connection.specs.Limits.{maxPath, maxRecord}
+use Rattle.connection.specs.Limits.{maxRecord}
 use Rattle.connection.specs.declared.UnconnectedSend.{UnconnectedSend}
 use Rattle.connection_words.specs.Requests.{messageBytes, sendBytes}
 use Rattle.route.specs.Routes.{routeSize}
@@ -60,8 +60,8 @@ module _ (pool : List ℕ) (p : Path) (n : ℕ) (ranged : AllRanged (slotsOf p))
       go : (w : Answer (List Slot)) → walk maxSegments bytesOf 0 ≡ w → writtenRoute bytesOf ≡ done n
       go (refused k) e = never (sym (ap (sees bytesOf) e) ∙ read)
       go (done v) e =
-          all-keep (over (length bytesOf) maxPath 3 ∷ []) (andThen (checkPath bytesOf) (λ _. done (length bytesOf))) (omega (arith, sized .short, long .size), tt)
-          ∙ then-done (checkPath bytesOf) (λ _. done (length bytesOf)) (length v) (ap countOf e)
+          all-keep _ _ (omega (arith, sized .short, long .size), tt)
+          ∙ then-done _ _ (length v) (ap countOf e)
           ∙ ap done (sym (long .size))
 
   message-size-same : (d : ℕ) → messageOverSize bytesOf d ≡ messageSize pool p d
@@ -71,9 +71,9 @@ module _ (pool : List ℕ) (p : Path) (n : ℕ) (ranged : AllRanged (slotsOf p))
   send-size-same : (m : ℕ) → sendOverSize bytesOf m ≡ sendSize pool p m
   unfolding overSize sendSize
   send-size-same m =
-      then-done (writtenRoute bytesOf) (λ k. withinLimit maxRecord (6 + m % 2 + k + m)) n written-list
+      then-done _ _ n written-list
       ∙ ap (withinLimit maxRecord) (omega arith)
-      ∙ sym (then-done (routeSize pool p) (λ k. withinLimit maxRecord (6 + k + m % 2 + m)) n h)
+      ∙ sym (then-done _ _ n h)
 
   -- so the answer and what is left are the same
   pub message-over-same : (service : ℕ) (content old : List ℕ)

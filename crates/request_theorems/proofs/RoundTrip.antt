@@ -1,12 +1,12 @@
 -- The readers and the bytes that writers make are each other's. Assumes nothing.
 use Prim.Native.Nat.{ℕ, _+_, _-_, _%_, _≤_, _<_}
 use mathlib.Core.Path.{_≡_, refl, sym, ap, _∙_}
-use mathlib.Core.List.{List, [], _∷_, _++_}
+use mathlib.Core.List.{List, _∷_, _++_}
 use native.Mathlib.Omega.{arith}
 use lib.ListN.{length, getD, drop, length-append}
 use Rattle.wire.specs.Numbers.{valueOf, Bytes}
 use Rattle.wire.specs.Parts.{part}
-use Rattle.wire.specs.Answers.{done, andThen, under, over, judged}
+use Rattle.wire.specs.Answers.{done, andThen}
 use Rattle.wire.specs.Records.{Field, laid, widths, AllHold, fieldsAt}
 use Rattle.wire.proofs.Numbers.{value-low, value-small, bytes-drop, some-power}
 use Rattle.wire.proofs.Rules.{done-same, all-keep, all-were, then-were, then-done}
@@ -17,9 +17,9 @@ use Rattle.connection_words.specs.Requests.{words, messageFields, messageBytes,
 use Rattle.connection.specs.declared.ForwardCloseRequest.{ForwardCloseRequest}
 use Rattle.connection.specs.declared.UnconnectedSend.{UnconnectedSend}
 use Rattle.message_read.specs.declared.MessageRequest.{MessageRequest}
-use Rattle.message_read.specs.Reads.{mostTicks, firstRules, pathBytes, pathAt, paddedRouteAt, messageAt, readMessage}
+use Rattle.message_read.specs.Reads.{mostTicks, firstRules, paddedRouteAt, messageAt, readMessage}
 use Rattle.forward_read.specs.Reads.{closed, closeAt, readClose}
-use Rattle.request.specs.Reads.{sent, sendAt, messageEnd, messageRules, sendBehind, readSend}
+use Rattle.request.specs.Reads.{sent, sendAt, messageEnd, sendBehind, readSend}
 use Rattle.message_read.proofs.ReadLaws.{SizeWas, size-was, PathWas, path-was}
 use Rattle.request_theorems.proofs.Routes.{Route, words-small, size-back, path-back, padded-back, PaddedWas, padded-was, words-was, route-again}
 
@@ -67,10 +67,10 @@ pub record MessageWas (s : List ℕ) (m : MessageRequest) : Type 0 where
 pub message-written-of-read : (s : List ℕ) (m : MessageRequest) → Bytes s → readMessage s ≡ done m → MessageWas s m
 unfolding messageBytes readMessage
 message-written-of-read s m b h =
-    let u = all-were (over (length s) maxRecord 3 ∷ []) (andThen (pathBytes s 1) (λ len. andThen (pathAt s 2 len) (λ n. done (messageAt s len)))) m h in
-    let v = then-were (pathBytes s 1) (λ len. andThen (pathAt s 2 len) (λ n. done (messageAt s len))) m (u .1) in
+    let u = all-were _ _ m h in
+    let v = then-were _ _ m (u .1) in
     let len : ℕ = v .found in
-    let w = then-were (pathAt s 2 len) (λ n. done (messageAt s len)) m (v .then) in
+    let w = then-were _ _ m (v .then) in
     let f : messageAt s len ≡ m = done-same (w .then) in
     let z : SizeWas s 1 len = size-was s 1 len (v .is) in
     let p : PathWas s 2 len = path-was s 2 len (w .found) (w .is) in
@@ -116,8 +116,8 @@ close-read-of-written c path t r =
     let k : valueOf 4 (drop 6 s) ≡ c .«originator_serial_number» = cc in
     record {
       read =
-          all-keep (firstRules s) (andThen (paddedRouteAt s 10) (λ len. done (closed (closeAt s) 12 len))) (omega (arith, r .short), (omega arith, (t .ticks, tt)))
-          ∙ then-done (paddedRouteAt s 10) (λ len. done (closed (closeAt s) 12 len)) (length path) (padded-back s path 10 r l refl refl p)
+          all-keep _ _ (omega (arith, r .short), (omega arith, (t .ticks, tt)))
+          ∙ then-done _ _ (length path) (padded-back s path 10 r l refl refl p)
           ∙ rw (i, j, k);
       path-is = p;
     }
@@ -134,7 +134,7 @@ close-written-of-read s c start len b h =
     let u = all-were (firstRules s) (andThen (paddedRouteAt s 10) (λ len. done (closed (closeAt s) 12 len))) (closed c start len) h in
     let v = then-were (paddedRouteAt s 10) (λ len. done (closed (closeAt s) 12 len)) (closed c start len) (u .1) in
     let n : ℕ = v .found in
-    let e : done (closed (closeAt s) 12 n) ≡ done (closed c start len) = v .then in
+    let e = done-same (v .then) in
     let f : closeAt s ≡ c = cc in
     let g : 12 ≡ start = cc in
     let k : n ≡ len = cc in
@@ -195,12 +195,11 @@ send-read-of-written u message path t r small =
     let route : paddedRouteAt s (messageEnd m) ≡ done (length path) = padded-back s path (messageEnd m) r l size zero-is p in
     record {
       read =
-          all-keep (firstRules s) (judged (under (length s) 4 1 ∷ []) (sendBehind s (valueOf 2 (drop 2 s)))) (omega arith, (omega arith, (t .ticks, tt)))
-          ∙ all-keep (under (length s) 4 1 ∷ []) (sendBehind s (valueOf 2 (drop 2 s))) (omega arith, tt)
+          all-keep _ _ (omega arith, (omega arith, (t .ticks, tt)))
+          ∙ all-keep _ _ (omega arith, tt)
           ∙ ap (sendBehind s) e
-          ∙ all-keep (messageRules s m) (andThen (paddedRouteAt s (messageEnd m)) (λ len. done (sent (sendAt s) 4 m (messageEnd m + 2) len)))
-          (omega arith, (omega arith, (pad, tt)))
-          ∙ then-done (paddedRouteAt s (messageEnd m)) (λ len. done (sent (sendAt s) 4 m (messageEnd m + 2) len)) (length path) route;
+          ∙ all-keep _ _ (omega arith, (omega arith, (pad, tt)))
+          ∙ then-done _ _ (length path) route;
       message-is = part-front s message (laid rest ++ path) 4 refl;
       path-is = p;
     }
@@ -245,14 +244,14 @@ pub send-written-of-read : (s : List ℕ) (u : UnconnectedSend) (from m start le
 unfolding readSend sendBehind
 send-written-of-read s u from m start len b h =
     let q : ℕ = valueOf 2 (drop 2 s) in
-    let a = all-were (firstRules s) (judged (under (length s) 4 1 ∷ []) (sendBehind s q)) (sent u from m start len) h in
-    let c = all-were (under (length s) 4 1 ∷ []) (sendBehind s q) (sent u from m start len) (a .1) in
-    let r = all-were (messageRules s q) (andThen (paddedRouteAt s (messageEnd q)) (λ len. done (sent (sendAt s) 4 q (messageEnd q + 2) len))) (sent u from m start len) (c .1) in
-    let v = then-were (paddedRouteAt s (messageEnd q)) (λ len. done (sent (sendAt s) 4 q (messageEnd q + 2) len)) (sent u from m start len) (r .1) in
+    let a = all-were _ _ (sent u from m start len) h in
+    let c = all-were _ _ (sent u from m start len) (a .1) in
+    let r = all-were _ _ (sent u from m start len) (c .1) in
+    let v = then-were _ _ (sent u from m start len) (r .1) in
     let n : ℕ = v .found in
     let w : SendWas s (sendAt s) 4 q (messageEnd q + 2) n
     = send-was s q n b (a .0 .0) (a .0 .1 .1 .0) (c .0 .0) refl (r .0 .0) (r .0 .1 .1 .0) (padded-was s (messageEnd q) n (v .is)) in
-    let e : done (sent (sendAt s) 4 q (messageEnd q + 2) n) ≡ done (sent u from m start len) = v .then in
+    let e = done-same (v .then) in
     let e1 : sendAt s ≡ u = cc in
     let e2 : 4 ≡ from = cc in
     let e3 : q ≡ m = cc in

@@ -1,12 +1,12 @@
 -- What requests share, both ways: what is laid out in a row, and the path behind a size byte. Assumes nothing.
 use Prim.Native.Nat.{ℕ, _+_, _*_, _%_, _≤_, _<_}
 use mathlib.Core.Path.{_≡_, ap, _∙_}
-use mathlib.Core.List.{List, [], _∷_}
+use mathlib.Core.List.{List}
 use native.Mathlib.Omega.{arith}
 use lib.ListN.{length, getD}
 use Rattle.wire.specs.Numbers.{Bytes}
 use Rattle.wire.specs.Parts.{part}
-use Rattle.wire.specs.Answers.{done, under, over, other, judged}
+use Rattle.wire.specs.Answers.{done}
 use Rattle.wire.proofs.Numbers.{bytes-part}
 use Rattle.wire.proofs.Rules.{done-same, all-keep, all-were, then-were, then-done}
 use Rattle.wire.proofs.Stores.{part-length}
@@ -40,33 +40,32 @@ pub size-back : (s path : List ℕ) (at : ℕ) → Route path → at + 1 ≤ len
 unfolding pathBytes
 size-back s path at r h e =
     let l : 2 * getD s at 0 ≡ length path = ap (λ (k : ℕ). 2 * k) e ∙ words-twice path r in
-    all-keep (under (length s) (at + 1) 1 ∷ over (2 * getD s at 0) maxPath 3 ∷ []) (done (2 * getD s at 0)) (h, (omega (arith, r .short), tt))
+    all-keep _ _ (h, (omega (arith, r .short), tt))
     ∙ ap done l
 
 pub path-back : (s path : List ℕ) (at : ℕ) (r : Route path) → at + length path ≤ length s → part s at (length path) ≡ path → pathAt s at (length path) ≡ done (r .count)
 unfolding pathAt
 path-back s path at r h e =
-    all-keep (under (length s) (at + length path) 1 ∷ []) (checkPath (part s at (length path))) (h, tt) ∙ ap checkPath e ∙ r .is
+    all-keep _ _ (h, tt) ∙ ap checkPath e ∙ r .is
 
 pub last-back : (s path : List ℕ) (at : ℕ) → Route path → length s ≡ at + length path → part s at (length path) ≡ path → lastPath s at (length path) ≡ done (length path)
 unfolding lastPath
 last-back s path at r h e =
-    then-done (pathAt s at (length path)) (λ n. judged (over (length s) (at + length path) 8 ∷ []) (done (length path))) (r .count) (path-back s path at r (omega arith) e)
-    ∙ all-keep (over (length s) (at + length path) 8 ∷ []) (done (length path)) (omega arith, tt)
+    then-done _ _ (r .count) (path-back s path at r (omega arith) e)
+    ∙ all-keep _ _ (omega arith, tt)
 
 pub route-back : (s path : List ℕ) (at : ℕ) → Route path → length s ≡ at + 1 + length path → getD s at 0 ≡ words path → part s (at + 1) (length path) ≡ path
     → routeAt s at ≡ done (length path)
 unfolding routeAt
 route-back s path at r h w e =
-    then-done (pathBytes s at) (λ len. lastPath s (at + 1) len) (length path) (size-back s path at r (omega arith) w) ∙ last-back s path (at + 1) r h e
+    then-done _ _ (length path) (size-back s path at r (omega arith) w) ∙ last-back s path (at + 1) r h e
 
 pub padded-back : (s path : List ℕ) (at : ℕ) → Route path → length s ≡ at + 2 + length path → getD s at 0 ≡ words path → getD s (at + 1) 0 ≡ 0
     → part s (at + 2) (length path) ≡ path → paddedRouteAt s at ≡ done (length path)
 unfolding paddedRouteAt
 padded-back s path at r h w z e =
-    then-done (pathBytes s at) (λ len. judged (under (length s) (at + 2) 1 ∷ other (getD s (at + 1) 0) 0 5 ∷ []) (lastPath s (at + 2) len)) (length path)
-    (size-back s path at r (omega arith) w)
-    ∙ all-keep (under (length s) (at + 2) 1 ∷ other (getD s (at + 1) 0) 0 5 ∷ []) (lastPath s (at + 2) (length path)) (omega arith, (z, tt))
+    then-done _ _ (length path) (size-back s path at r (omega arith) w)
+    ∙ all-keep _ _ (omega arith, (z, tt))
     ∙ last-back s path (at + 2) r h e
 
 -- ---- written of read
@@ -80,9 +79,9 @@ pub record RouteWas (s : List ℕ) (size at len : ℕ) : Type 0 where
 last-was : (s : List ℕ) (size at len n : ℕ) → SizeWas s size len → lastPath s at len ≡ done n → RouteWas s size at n
 unfolding lastPath
 last-was s size at len n z h =
-    let w = then-were (pathAt s at len) (λ n. judged (over (length s) (at + len) 8 ∷ []) (done len)) n h in
+    let w = then-were _ _ n h in
     let p : PathWas s at len = path-was s at len (w .found) (w .is) in
-    let u = all-were (over (length s) (at + len) 8 ∷ []) (done len) n (w .then) in
+    let u = all-were _ _ n (w .then) in
     let k : length s ≤ at + len = u .0 .0 in
     let f : len ≡ n = done-same (u .1) in
     rw (← f) (record { sized = z; path = p; whole = omega (arith, p .here) })
@@ -90,7 +89,7 @@ last-was s size at len n z h =
 pub route-was : (s : List ℕ) (at n : ℕ) → routeAt s at ≡ done n → RouteWas s at (at + 1) n
 unfolding routeAt
 route-was s at n h =
-    let w = then-were (pathBytes s at) (λ len. lastPath s (at + 1) len) n h in
+    let w = then-were _ _ n h in
     last-was s at (at + 1) (w .found) n (size-was s at (w .found) (w .is)) (w .then)
 
 pub record PaddedWas (s : List ℕ) (at n : ℕ) : Type 0 where
@@ -100,8 +99,8 @@ pub record PaddedWas (s : List ℕ) (at n : ℕ) : Type 0 where
 pub padded-was : (s : List ℕ) (at n : ℕ) → paddedRouteAt s at ≡ done n → PaddedWas s at n
 unfolding paddedRouteAt
 padded-was s at n h =
-    let w = then-were (pathBytes s at) (λ len. judged (under (length s) (at + 2) 1 ∷ other (getD s (at + 1) 0) 0 5 ∷ []) (lastPath s (at + 2) len)) n h in
-    let u = all-were (under (length s) (at + 2) 1 ∷ other (getD s (at + 1) 0) 0 5 ∷ []) (lastPath s (at + 2) (w .found)) n (w .then) in
+    let w = then-were _ _ n h in
+    let u = all-were _ _ n (w .then) in
     record { route = last-was s at (at + 2) (w .found) n (size-was s at (w .found) (w .is)) (u .1); reserved = u .0 .1 .0 }
 
 -- how many words the path that was read has: what the size byte says
