@@ -1,6 +1,6 @@
 -- Nested reading: what is opened, in what order rows stand, how deep, how many. Assumes nothing.
-use Prim.Native.Nat.{ℕ, zero, suc, _*_, _-_, _≤_}
-use mathlib.Core.Path.{_≡_, refl, ap, _∙_}
+use Prim.Native.Nat.{ℕ, zero, suc, _+_, _*_, _-_, _≤_}
+use mathlib.Core.Path.{_≡_, refl, sym, ap, _∙_}
 use mathlib.Core.List.{List, [], _∷_, _++_}
 use mathlib.Core.Bool.{Bool, true, false}
 use native.Mathlib.Omega.{arith}
@@ -49,32 +49,42 @@ pub opens-send : (s : ℕ) (p : List ℕ) → To sendService (pathTo connectionM
 unfolding kindOf sameBytes
 opens-send s p t = rw (t .service-is, t .path-is)
 
-abbrev chosen : Bool → Bool → Bool → Bool → Kind
+other : {B : Type 0} {a b : Kind} → a ≡ b → (a ≡ b → _≡_ {A = ℕ} 0 1) → B
+other e f = absurd (let z = f e in omega arith)
+
+chosen : Bool → Bool → Bool → Bool → Kind
 chosen a b c d = pick a (pick b Packet Plain) (pick c (pick d Send Plain) Plain)
 
--- what the tests say where a kind was chosen
-abbrev Why : Kind → Bool → Bool → Bool → Bool → Type 0
-Why Plain a b c d = Unit {0}
-Why Packet a b c d = (a ≡ true) × (b ≡ true)
-Why Send a b c d = (c ≡ true) × (d ≡ true)
+packet-chosen : (a b c d : Bool) → chosen a b c d ≡ Packet → (a ≡ true) × (b ≡ true)
+unfolding chosen
+packet-chosen true true c d h = (refl, refl)
+packet-chosen true false c d h = other h (λ e. cc)
+packet-chosen false b true true h = other h (λ e. cc)
+packet-chosen false b true false h = other h (λ e. cc)
+packet-chosen false b false d h = other h (λ e. cc)
 
-why : (a b c d : Bool) → Why (chosen a b c d) a b c d
-why true true c d = (refl, refl)
-why true false c d = tt
-why false b true true = (refl, refl)
-why false b true false = tt
-why false b false d = tt
+send-chosen : (a b c d : Bool) → chosen a b c d ≡ Send → (c ≡ true) × (d ≡ true)
+unfolding chosen
+send-chosen true true c d h = other h (λ e. cc)
+send-chosen true false c d h = other h (λ e. cc)
+send-chosen false b true true h = (refl, refl)
+send-chosen false b true false h = other h (λ e. cc)
+send-chosen false b false d h = other h (λ e. cc)
 
 module _ (s : ℕ) (p : List ℕ) where
-  why-opened : Why (kindOf s p) (eqb s packetService) (sameBytes p (pathTo messageRouter)) (eqb s sendService) (sameBytes p (pathTo connectionManager))
-  unfolding kindOf
-  why-opened = why _ _ _ _
+  by-tests : kindOf s p ≡ chosen (eqb s packetService) (sameBytes p (pathTo messageRouter)) (eqb s sendService) (sameBytes p (pathTo connectionManager))
+  unfolding kindOf chosen
+  by-tests = refl
 
   pub packet-opened : kindOf s p ≡ Packet → To packetService (pathTo messageRouter) s p
-  packet-opened h = let w = rw h at why-opened in record { service-is = eqb-true s packetService (w .0); path-is = same-true p (pathTo messageRouter) (w .1) }
+  packet-opened h =
+      let w = packet-chosen (eqb s packetService) (sameBytes p (pathTo messageRouter)) (eqb s sendService) (sameBytes p (pathTo connectionManager)) (sym by-tests ∙ h) in
+      record { service-is = eqb-true s packetService (w .0); path-is = same-true p (pathTo messageRouter) (w .1) }
 
   pub send-opened : kindOf s p ≡ Send → To sendService (pathTo connectionManager) s p
-  send-opened h = let w = rw h at why-opened in record { service-is = eqb-true s sendService (w .0); path-is = same-true p (pathTo connectionManager) (w .1) }
+  send-opened h =
+      let w = send-chosen (eqb s packetService) (sameBytes p (pathTo messageRouter)) (eqb s sendService) (sameBytes p (pathTo connectionManager)) (sym by-tests ∙ h) in
+      record { service-is = eqb-true s sendService (w .0); path-is = same-true p (pathTo connectionManager) (w .1) }
 
 -- ---- rows
 
