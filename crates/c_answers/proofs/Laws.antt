@@ -93,23 +93,6 @@ pub ruleset fill-laws = (fill-full, fill-kept, fill-size, fill-stored)
 
 -- ---- the ends of a function for C that hands on what another answers
 
--- a reader that answers a: how many numbers it fills, or why not
-module _ (a : Answer (List ℕ)) (old : List ℕ) where
-  pub read-refused : (k r : ℕ) → a ≡ refused k → r ≡ code (refused k) → r ≡ code (withRoom (filled a) (length old))
-  read-refused k r h e = e ∙ sym (ap (λ (x : Answer (List ℕ)). code (withRoom (filled x) (length old))) h)
-
-  pub read-kept : (k : ℕ) → a ≡ refused k → old ≡ written (withRoom (filled a) (length old)) (numbers a) old
-  read-kept k h = sym (ap (λ (x : Answer (List ℕ)). written (withRoom (filled x) (length old)) (numbers x) old) h)
-
-  pub read-answer : (src : List ℕ) (r : ℕ) → a ≡ done src → r ≡ code (withRoom (done (length src)) (length old)) → r ≡ code (withRoom (filled a) (length old))
-  read-answer src r h e = e ∙ sym (ap (λ (x : Answer (List ℕ)). code (withRoom (filled x) (length old))) h)
-
-  pub read-stored : (src new : List ℕ) → a ≡ done src → new ≡ written (withRoom (done (length src)) (length old)) src old
-      → new ≡ written (withRoom (filled a) (length old)) (numbers a) old
-  read-stored src new h e = e ∙ sym (ap (λ (x : Answer (List ℕ)). written (withRoom (filled x) (length old)) (numbers x) old) h)
-
-pub ruleset read-laws = (read-refused, read-kept, read-answer, read-stored)
-
 -- a reader of any answers, whose numbers f are told: it answered w, which says x, and w is y
 module _ {A R : Type 0} (paper : R → Answer A) (f : A → List ℕ) (x : Answer A) (old : List ℕ) (w y : R) (is : paper w ≡ x) (h : w ≡ y) where
   meant : runOf f (paper y) ≡ runOf f x
