@@ -25,10 +25,10 @@ use Rattle.epath_sizes.specs.declared.Slot.{Slot}
 use Rattle.epath_segment.specs.declared.SegmentRead.{SegmentRead}
 use Rattle.epath_segment.specs.declared.SegmentRead.the-variants.{Found, Refused}
 use Rattle.epath_segment.specs.Reads.{Front, front, paperFront, readSeg, moved}
-use Rattle.epath.specs.Paths.{before, walk, countOf, listOf, checkPath}
-use Rattle.epath.proofs.Places.{at-found}
-use Rattle.epath.proofs.ShiftLaws.{fits-symbol, fits-port}
-use Rattle.epath.proofs.Walks.{walk-ends, walk-full, walk-stops, walk-goes, Stands}
+use Rattle.epath_check.specs.Paths.{before, walk, countOf, listOf, checkPath}
+use Rattle.epath_check.proofs.Places.{at-found}
+use Rattle.epath_check.proofs.ShiftLaws.{fits-symbol, fits-port}
+use Rattle.epath_check.proofs.Walks.{walk-ends, walk-full, walk-stops, walk-goes, Stands}
 use Rattle.c_paths.specs.Kinds.{symbolKind, classKind, instanceKind, attributeKind, elementKind, portKind, rowNumbers}
 use Rattle.c_paths.specs.Rows.{segmentRow, numbersOf, rowsFor}
 use Rattle.c_paths.specs.declared.SegmentRow.{SegmentRow}

@@ -10,7 +10,7 @@ use Rattle.epath_sizes.specs.Limits.{maxSegments, maxPlace}
 use Rattle.epath_sizes.specs.declared.Segment.{Segment}
 use Rattle.epath_sizes.specs.declared.Slot.{Slot}
 use Rattle.epath_segment.specs.Reads.{Front, front, readSeg, moved}
-use Rattle.epath.specs.Paths.{walk, listOf, checkPath, Placed}
+use Rattle.epath_check.specs.Paths.{walk, listOf, checkPath, Placed}
 use Rattle.c_paths.specs.Kinds.{rowNumbers}
 use Rattle.c_paths.specs.Rows.{segmentRow, numbersOf, rowsFor}
 

@@ -1,9 +1,8 @@
 // CIP paths for C: bytes into rows of four numbers; c_paths has the rows and their way into bytes. include/barkcushion_path.h says what C
 // sees of it. A path is judged, and then walked again, and each segment's row is stored behind the one before it.
-use c_answers::count_answer;
 use c_answers::refusal_answer;
 use c_paths::SegmentRow;
-use epath::check_path;
+use epath_check::check_path;
 use epath_segment::SegmentRead;
 use epath_segment::read_segment;
 use epath_sizes::Segment;
@@ -16,7 +15,6 @@ ghost use lib.Seq.{sets};
 ghost use Rattle.wire.specs.Answers.{written};
 ghost use Rattle.epath_sizes.specs.Limits.{maxPlace};
 ghost use Rattle.epath_sizes.specs.Lists.{startOf, shifted};
-ghost use Rattle.epath.specs.Paths.{checkPath};
 ghost use Rattle.c_answers.specs.Codes.{code};
 ghost use Rattle.c_paths.specs.Kinds.{rowNumbers};
 ghost use Rattle.c_paths.specs.Rows.{segmentRow, numbersOf};
@@ -97,14 +95,6 @@ fn read_rows(path: &[u8], rows: &mut [u32])
         at = read_row(path, at, &mut rows[k..]);
         i += 1;
     }
-}
-
-// How many segments a path has, judged strictly.
-#[no_mangle]
-pub extern "C" fn bark_check_path(path: &[u8]) -> usize
-    ensures { λ r. ⌜ r ≡ code (checkPath (now (path .entry))) ⌝ }
-{
-    count_answer(check_path(path))
 }
 
 // Reads a path's segments into rows, with path as their pool, or changes nothing. The path is judged before the first row is stored.

@@ -12,7 +12,7 @@ use Rattle.wire.specs.Answers.{Answer, done, refused, breaks, judged}
 use Rattle.epath_sizes.specs.Segments.{padded}
 use Rattle.epath_sizes.specs.Sizes.{segmentSize}
 use Rattle.epath_segment.specs.Reads.{formOf, formIn, readWide, readSeg}
-use Rattle.epath.specs.Paths.{walk, checkPath}
+use Rattle.epath_check.specs.Paths.{walk, checkPath}
 use Rattle.reply_header.specs.Headers.{readHeader}
 use Rattle.body_encode.specs.Bodies.{bodyOf}
 use Rattle.body_read.specs.Reads.{readBody}

@@ -11,7 +11,7 @@ use Rattle.epath_sizes.specs.Lists.{meaning}
 use Rattle.epath_sizes.specs.Sizes.{segmentSize}
 use Rattle.epath_sizes.specs.declared.Segment.{Segment}
 use Rattle.epath_sizes.specs.declared.Segment.the-variants.{Symbol, Element, Port}
-use Rattle.epath.specs.Paths.{checkPath}
+use Rattle.epath_check.specs.Paths.{checkPath}
 use Rattle.reply_header.specs.Headers.{readHeader}
 use Rattle.reply_header.specs.declared.ExtendedStatus.{ExtendedStatus}
 use Rattle.reply_header.specs.declared.ExtendedStatus.the-variants.{Absent, Word}

@@ -32,9 +32,10 @@ use Rattle.epath_lists.proofs.is_port
 use Rattle.epath_lists.proofs.Exact as EpathLists
 use Rattle.epath_segment.proofs.read_segment
 use Rattle.epath_segment.proofs.Exact as EpathSegment
-use Rattle.epath.proofs.check_path
-use Rattle.epath.proofs.read_path
-use Rattle.epath.proofs.Exact as Epath
+use Rattle.epath_check.proofs.check_path
+use Rattle.epath_check.proofs.Exact as EpathCheck
+use Rattle.epath_read.proofs.read_path
+use Rattle.epath_read.proofs.Exact as EpathRead
 use Rattle.connection.proofs.default_parameters
 use Rattle.connection.proofs.default_options
 use Rattle.connection.proofs.priority_tick_time
@@ -119,7 +120,8 @@ use Rattle.route_written.proofs.Exact as RouteWritten
 use Rattle.c_paths.proofs.bark_path_size
 use Rattle.c_paths.proofs.bark_write_path
 use Rattle.c_paths.proofs.Exact as CPaths
-use Rattle.c_path_reads.proofs.bark_check_path
+use Rattle.c_path_checks.proofs.bark_check_path
+use Rattle.c_path_checks.proofs.Exact as CPathChecks
 use Rattle.c_path_reads.proofs.bark_read_path
 use Rattle.c_path_reads.proofs.Exact as CPathReads
 use Rattle.c_messages.proofs.bark_write_message
@@ -204,8 +206,9 @@ pub record Claims : Type 2 where
   pub is-port : Exact is_port.ended (λ _. is_port.clauses)
   -- epath_segment
   pub read-segment : Exact read_segment.ended (λ _. read_segment.clauses)
-  -- epath
+  -- epath_check
   pub check-path : Exact check_path.ended (λ _. check_path.clauses)
+  -- epath_read
   pub read-path : Exact read_path.ended (λ _. read_path.clauses)
   -- connection
   pub default-parameters : Exact default_parameters.ended (λ _. default_parameters.clauses)
@@ -291,8 +294,9 @@ pub record Claims : Type 2 where
   -- c_paths
   pub bark-path-size : Exact bark_path_size.ended (λ _. bark_path_size.clauses)
   pub bark-write-path : Exact bark_write_path.ended (λ _. bark_write_path.clauses)
-  -- c_path_reads
+  -- c_path_checks
   pub bark-check-path : Exact bark_check_path.ended (λ _. bark_check_path.clauses)
+  -- c_path_reads
   pub bark-read-path : Exact bark_read_path.ended (λ _. bark_read_path.clauses)
   -- c_messages
   pub bark-write-message : Exact bark_write_message.ended (λ _. bark_write_message.clauses)
@@ -370,8 +374,8 @@ claims =
       write-segment = EpathEncode.write-segment-exact;
       write-path = EpathEncode.write-path-exact;
       read-segment = EpathSegment.read-segment-exact;
-      check-path = Epath.check-path-exact;
-      read-path = Epath.read-path-exact;
+      check-path = EpathCheck.check-path-exact;
+      read-path = EpathRead.read-path-exact;
       default-parameters = Connection.default-parameters-exact;
       default-options = Connection.default-options-exact;
       priority-tick-time = Connection.priority-tick-time-exact;
@@ -428,7 +432,7 @@ claims =
       written-record = RouteWritten.written-record-exact;
       bark-path-size = CPaths.bark-path-size-exact;
       bark-write-path = CPaths.bark-write-path-exact;
-      bark-check-path = CPathReads.bark-check-path-exact;
+      bark-check-path = CPathChecks.bark-check-path-exact;
       bark-read-path = CPathReads.bark-read-path-exact;
       bark-write-message = CMessages.bark-write-message-exact;
       bark-read-message = CMessages.bark-read-message-exact;

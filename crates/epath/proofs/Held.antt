@@ -13,9 +13,9 @@ use Rattle.epath_sizes.specs.declared.Segment.{Segment}
 use Rattle.epath_sizes.specs.declared.Segment.the-variants.{Symbol, Class, Instance, Attribute, Element, Port}
 use Rattle.epath_sizes.specs.declared.Slot.{Slot}
 use Rattle.epath_segment.specs.Reads.{Front, front, readSeg, moved}
-use Rattle.epath.specs.Paths.{before, walk, listOf}
+use Rattle.epath_check.specs.Paths.{before, walk, listOf}
 use Rattle.epath_segment.proofs.Got.{got}
-use Rattle.epath.proofs.Walks.{walk-ends, walk-full, walk-stops, walk-goes}
+use Rattle.epath_check.proofs.Walks.{walk-ends, walk-full, walk-stops, walk-goes}
 
 -- each slot's bytes lie in a pool of n bytes
 abbrev pub AllHeld : ℕ → List Slot → Type 0

@@ -17,11 +17,11 @@ use Rattle.epath_sizes.specs.declared.Segment.{Segment}
 use Rattle.epath_sizes.specs.declared.Segment.the-variants.{Symbol, Class, Instance, Attribute, Element, Port}
 use Rattle.epath_sizes.specs.declared.Slot.{Slot}
 use Rattle.epath_segment.specs.Reads.{Front, front, readSeg, parsed, seen, parse, moved}
-use Rattle.epath.specs.Paths.{before, walk, sees, parsePath}
+use Rattle.epath_check.specs.Paths.{before, walk, sees, parsePath}
 use Rattle.epath_segment.proofs.ReadLaws.{front-short}
 use Rattle.epath_segment.proofs.Got.{Got, got}
 use Rattle.epath_segment.proofs.Back.{segment-read-of-written}
-use Rattle.epath.proofs.Walks.{walk-ends, walk-full, walk-stops, walk-goes}
+use Rattle.epath_check.proofs.Walks.{walk-ends, walk-full, walk-stops, walk-goes}
 
 -- ---- one segment
 

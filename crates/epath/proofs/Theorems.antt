@@ -15,7 +15,8 @@ use Rattle.epath_sizes.specs.Limits.{maxSegments, maxSymbol, maxLink}
 use Rattle.epath_sizes.specs.Segments.{Seg, encodeSeg, encode, Fine, AllFine, norm}
 use Rattle.epath_sizes.specs.Lists.{meaning, slotsOf, segs, segsOf, blank, blanks, pathOf, startOf, lenOf}
 use Rattle.epath_sizes.specs.Sizes.{segmentSize, pathSize, Good, AllGoodIn}
-use Rattle.epath.specs.Paths.{walk, countOf, listOf, PathFound, readPath, checkPath, sees, parsePath}
+use Rattle.epath_check.specs.Paths.{walk, countOf, listOf, checkPath, sees, parsePath}
+use Rattle.epath_read.specs.Reads.{PathFound, readPath}
 use Rattle.epath_sizes.specs.declared.Segment.{Segment}
 use Rattle.epath_sizes.specs.declared.Segment.the-variants.{Symbol, Class, Instance, Attribute, Element, Port}
 use Rattle.epath_sizes.specs.declared.Slot.{Slot}

@@ -1,14 +1,12 @@
-// CIP paths, whole: the strict reader here, and one segment's, segments, their sizes and the writer handed on from epath_segment, epath_sizes,
-// epath_encode and epath_lists.
-mod decode; // decode.rt: the strict reader
-
-pub use decode::check_path;
-pub use decode::read_path;
+// CIP paths, whole: nothing of its own, all handed on from the crates that have it; proofs/ has the theorems on paths that no function needs.
+pub use epath_check::check_path;
 pub use epath_encode::write_path;
 pub use epath_encode::write_segment;
 pub use epath_lists::blank_path;
 pub use epath_lists::default_port;
 pub use epath_lists::is_port;
+pub use epath_read::PathRead;
+pub use epath_read::read_path;
 pub use epath_segment::SegmentRead;
 pub use epath_segment::read_segment;
 pub use epath_sizes::EPATH_CONNECTION_MANAGER;
@@ -22,9 +20,3 @@ pub use epath_sizes::Slot;
 pub use epath_sizes::SymbolSegment;
 pub use epath_sizes::path_size;
 pub use epath_sizes::segment_size;
-
-// How many segments were read, and the list; a refusal beside a list that holds nothing.
-pub struct PathRead {
-    pub answer: wire::Counted,
-    pub path: Path,
-}

@@ -11,7 +11,7 @@ use Rattle.wire.specs.declared.Refusal.{Refusal}
 use Rattle.wire.specs.declared.Counted.{Counted}
 use Rattle.wire.specs.declared.Counted.the-variants.{Count, Refused as NotCounted}
 use Rattle.wire.proofs.Rules.{rules, done-same, all-keep, all-were, same-refusal, then-stops, then-goes}
-use Rattle.epath.specs.Paths.{checkPath}
+use Rattle.epath_check.specs.Paths.{checkPath}
 use Rattle.connection.specs.Limits.{maxPath, maxRecord}
 use Rattle.message_read.specs.declared.MessageRequest.{MessageRequest}
 use Rattle.message_read.specs.declared.Judged.{Judged}

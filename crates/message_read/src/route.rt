@@ -1,5 +1,5 @@
 // What requests share: the path behind a size byte. What is required of places only keeps their sums from wrapping.
-use epath::check_path;
+use epath_check::check_path;
 use wire::Counted;
 use wire::Refusal;
 use wire_read::byte_at;

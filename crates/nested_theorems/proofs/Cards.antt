@@ -4,7 +4,7 @@ use mathlib.Core.Path.{_≡_, refl}
 use mathlib.Core.List.{List, [], _∷_}
 use Rattle.wire.specs.Numbers.{valueOf}
 use Rattle.wire.specs.Answers.{done, breaks, judged}
-use Rattle.epath.specs.Paths.{walk, checkPath}
+use Rattle.epath_check.specs.Paths.{walk, checkPath}
 use Rattle.epath_segment.specs.Reads.{formOf, formIn, readNarrow, readSeg}
 use Rattle.message_read.specs.Reads.{pathBytes, pathAt, readMessage}
 use Rattle.body_read.specs.Reads.{readBody}

@@ -6,7 +6,7 @@ use native.Mathlib.Omega.{arith}
 use lib.ListN.{length}
 use Rattle.wire.specs.Parts.{part}
 use Rattle.wire.specs.Answers.{breaks, judged}
-use Rattle.epath.specs.Paths.{walk, checkPath}
+use Rattle.epath_check.specs.Paths.{walk, checkPath}
 use Rattle.epath_segment.specs.Reads.{formOf, formIn, readNarrow, readSeg}
 use Rattle.connection.specs.Limits.{maxRecord}
 use Rattle.connection.specs.declared.UnconnectedSend.{UnconnectedSend}

@@ -15,7 +15,7 @@ use Rattle.epath_sizes.specs.declared.Path.{Path}
 use Rattle.epath_sizes.specs.declared.Slot.{Slot}
 use Rattle.epath_sizes.proofs.PathLaws.{PathSized, path-sized}
 use Rattle.epath_encode.proofs.Theorems.{answerOf, left-front}
-use Rattle.epath.specs.Paths.{walk, countOf, checkPath, sees, parsePath}
+use Rattle.epath_check.specs.Paths.{walk, countOf, checkPath, sees, parsePath}
 use Rattle.epath.proofs.Theorems.{AllRanged, write-then-read}
 use Rattle.connection.specs.Limits.{maxRecord}
 use Rattle.connection.specs.declared.UnconnectedSend.{UnconnectedSend}

@@ -10,7 +10,7 @@ use Rattle.wire.specs.Answers.{done}
 use Rattle.wire.proofs.Numbers.{bytes-part}
 use Rattle.wire.proofs.Rules.{done-same, all-keep, all-were, then-were, then-done}
 use Rattle.wire.proofs.Stores.{part-length}
-use Rattle.epath.specs.Paths.{checkPath}
+use Rattle.epath_check.specs.Paths.{checkPath}
 use Rattle.epath.proofs.Theorems.{checked-even}
 use Rattle.connection.specs.Limits.{maxPath}
 use Rattle.connection_words.specs.Requests.{words}

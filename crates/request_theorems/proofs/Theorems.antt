@@ -13,7 +13,7 @@ use Rattle.epath_sizes.specs.Limits.{maxSegments}
 use Rattle.epath_sizes.specs.Segments.{Seg, encode, AllFine, norm}
 use Rattle.epath_sizes.specs.declared.Slot.{Slot}
 use Rattle.epath_sizes.proofs.Even.{path-even}
-use Rattle.epath.specs.Paths.{walk, countOf, checkPath, sees, parsePath}
+use Rattle.epath_check.specs.Paths.{walk, countOf, checkPath, sees, parsePath}
 use Rattle.epath.proofs.RoundTrip.{Written, read-of-written, written-of-read}
 use Rattle.epath.proofs.Theorems.{Checked, checked}
 use Rattle.connection.specs.Limits.{maxPath, maxRecord}

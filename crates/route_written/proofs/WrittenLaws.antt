@@ -9,7 +9,7 @@ use Rattle.wire.specs.declared.Refusal.{Refusal}
 use Rattle.wire.specs.declared.Counted.{Counted}
 use Rattle.wire.specs.declared.Counted.the-variants.{Count, Refused}
 use Rattle.wire.proofs.Rules.{rules, done-same, all-were, then-stops, then-goes, Went, then-were}
-use Rattle.epath.specs.Paths.{checkPath}
+use Rattle.epath_check.specs.Paths.{checkPath}
 use Rattle.connection.specs.Limits.{maxPath}
 use Rattle.route_written.specs.Written.{writtenRoute}
 

@@ -3,7 +3,7 @@ use Prim.Native.Nat.{ℕ, _+_}
 use mathlib.Core.List.{List, [], _∷_}
 use lib.ListN.{length}
 use Rattle.wire.specs.Answers.{Answer, done, over, judged, andThen, withinLimit}
-use Rattle.epath.specs.Paths.{checkPath}
+use Rattle.epath_check.specs.Paths.{checkPath}
 use Rattle.connection.specs.Limits.{maxPath, maxRecord}
 
 -- its limit, then the strict reader's own refusal, else how many bytes it has

@@ -1,5 +1,5 @@
 // The path behind a size byte, given as its bytes already written: judged, and not taken apart.
-use epath::check_path;
+use epath_check::check_path;
 use wire::Counted;
 use wire::Refusal;
 use wire::Wrote;

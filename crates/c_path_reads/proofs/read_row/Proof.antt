@@ -1,9 +1,9 @@
 -- `c_path_reads::read_row` meets its contract. Assumes nothing.
---: use Rattle.epath.proofs.Places.{place-laws}
+--: use Rattle.epath_check.proofs.Places.{place-laws}
 --: use Rattle.c_path_reads.proofs.ReadLaws.{place-rows}
 --: returns = search (place-rows, needs) fits 5000
 --: * = search (place-rows, place-laws, needs, {known}) fits 5000
-use Rattle.epath.proofs.Places.{place-laws}
+use Rattle.epath_check.proofs.Places.{place-laws}
 use Rattle.c_path_reads.proofs.ReadLaws.{place-rows}
 use borrow.Author.Needs.{needs}
 use Rattle.c_path_reads.proofs.read_row.Statement.{statement}
