@@ -2,9 +2,9 @@
 use Prim.Native.Nat.{ℕ}
 use mathlib.Core.Path.{_≡_, sym, ap, _∙_}
 use mathlib.Core.Bool.{Bool, true, false}
-use Rattle.reply_header.specs.Statuses.{isRoutingError}
-use Rattle.reply_header.specs.declared.ExtendedStatus.the-variants.{Absent, Word}
-use Rattle.reply_header.specs.declared.Status.{Status}
+use Rattle.statuses.specs.Statuses.{isRoutingError}
+use Rattle.statuses.specs.declared.ExtendedStatus.the-variants.{Absent, Word}
+use Rattle.statuses.specs.declared.Status.{Status}
 use Rattle.c_replies.specs.Replies.{statusOf}
 
 module _ (general : ℕ) (hasWord : Bool) (word : ℕ) where

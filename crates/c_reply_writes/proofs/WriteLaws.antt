@@ -9,7 +9,7 @@ use Rattle.wire.specs.declared.Wrote.{Wrote}
 use Rattle.connection.specs.declared.ForwardRequestFail.{ForwardRequestFail}
 use Rattle.connection.specs.declared.RemainingPathSize.{RemainingPathSize}
 use Rattle.connection.specs.declared.RemainingPathSize.the-variants.{Absent, Words}
-use Rattle.reply_header.specs.declared.Status.{Status}
+use Rattle.statuses.specs.declared.Status.{Status}
 use Rattle.reply_encode.specs.Replies.{failureBytes}
 use Rattle.reply_encode.specs.Sizes.{failureSize}
 use Rattle.c_answers.specs.Codes.{code}

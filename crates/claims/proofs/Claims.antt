@@ -78,8 +78,9 @@ use Rattle.forward_read.proofs.read_forward_close
 use Rattle.forward_read.proofs.Exact as ForwardRead
 use Rattle.request.proofs.read_unconnected_send
 use Rattle.request.proofs.Exact as Request
-use Rattle.reply_header.proofs.is_ok
-use Rattle.reply_header.proofs.is_routing_error
+use Rattle.statuses.proofs.is_ok
+use Rattle.statuses.proofs.is_routing_error
+use Rattle.statuses.proofs.Exact as Statuses
 use Rattle.reply_header.proofs.read_reply_header
 use Rattle.reply_header.proofs.Exact as ReplyHeader
 use Rattle.reply_encode.proofs.write_forward_open_success
@@ -250,9 +251,10 @@ pub record Claims : Type 2 where
   pub read-forward-close : Exact read_forward_close.ended (λ _. read_forward_close.clauses)
   -- request
   pub read-unconnected-send : Exact read_unconnected_send.ended (λ _. read_unconnected_send.clauses)
-  -- reply_header
+  -- statuses
   pub is-ok : Exact is_ok.ended (λ _. is_ok.clauses)
   pub is-routing-error : Exact is_routing_error.ended (λ _. is_routing_error.clauses)
+  -- reply_header
   pub read-reply-header : Exact read_reply_header.ended (λ _. read_reply_header.clauses)
   -- reply_encode
   pub write-forward-open-success : Exact write_forward_open_success.ended (λ _. write_forward_open_success.clauses)
@@ -401,8 +403,8 @@ claims =
       read-forward-open = ForwardRead.read-forward-open-exact;
       read-forward-close = ForwardRead.read-forward-close-exact;
       read-unconnected-send = Request.read-unconnected-send-exact;
-      is-ok = ReplyHeader.is-ok-exact;
-      is-routing-error = ReplyHeader.is-routing-error-exact;
+      is-ok = Statuses.is-ok-exact;
+      is-routing-error = Statuses.is-routing-error-exact;
       read-reply-header = ReplyHeader.read-reply-header-exact;
       write-forward-open-success = ReplyEncode.write-forward-open-success-exact;
       write-forward-close-success = ReplyEncode.write-forward-close-success-exact;

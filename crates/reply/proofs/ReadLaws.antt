@@ -15,7 +15,7 @@ use Rattle.wire.proofs.Rules.{rules, then-stops, then-goes}
 use Rattle.connection.specs.declared.ForwardRequestFail.{ForwardRequestFail}
 use Rattle.connection.specs.declared.RemainingPathSize.{RemainingPathSize}
 use Rattle.connection.specs.declared.RemainingPathSize.the-variants.{Absent, Words}
-use Rattle.reply_header.specs.Statuses.{isOk}
+use Rattle.statuses.specs.Statuses.{isOk}
 use Rattle.reply_header.specs.Headers.{dataStart, readHeader, paperReply}
 use Rattle.reply_header.specs.declared.MessageReply.{MessageReply}
 use Rattle.reply_header.specs.declared.ReplyRead.{ReplyRead}

@@ -13,7 +13,7 @@ use Rattle.connection.specs.declared.ForwardCloseSuccess.{ForwardCloseSuccess}
 use Rattle.connection.specs.declared.ForwardRequestFail.{ForwardRequestFail}
 use Rattle.connection.specs.declared.RemainingPathSize.{RemainingPathSize}
 use Rattle.connection.specs.declared.RemainingPathSize.the-variants.{Absent, Words}
-use Rattle.reply_header.specs.Statuses.{isOk}
+use Rattle.statuses.specs.Statuses.{isOk}
 use Rattle.reply_header.specs.Headers.{readHeader}
 use Rattle.reply_header.specs.declared.MessageReply.{MessageReply}
 use Rattle.reply.specs.declared.OpenReplyRead.{OpenReplyRead}

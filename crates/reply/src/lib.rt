@@ -15,8 +15,8 @@ pub use reply_encode::write_forward_close_success;
 pub use reply_encode::write_forward_failure;
 pub use reply_encode::write_forward_open_success;
 use reply_header::MessageReply;
-pub use reply_header::is_ok;
-pub use reply_header::is_routing_error;
+pub use statuses::is_ok;
+pub use statuses::is_routing_error;
 pub use reply_header::read_reply_header;
 use wire::Refusal;
 

@@ -13,8 +13,8 @@ use Rattle.connection.specs.declared.ForwardOpenSuccess.{ForwardOpenSuccess}
 use Rattle.connection.specs.declared.ForwardCloseSuccess.{ForwardCloseSuccess}
 use Rattle.connection.specs.declared.ForwardRequestFail.{ForwardRequestFail}
 use Rattle.connection.specs.declared.RemainingPathSize.{RemainingPathSize}
-use Rattle.reply_header.specs.declared.ExtendedStatus.{ExtendedStatus}
-use Rattle.reply_header.specs.declared.Status.{Status}
+use Rattle.statuses.specs.declared.ExtendedStatus.{ExtendedStatus}
+use Rattle.statuses.specs.declared.Status.{Status}
 use Rattle.reply_encode.specs.Replies.{openReplyBytes, closeReplyBytes, failureBytes}
 use Rattle.reply_encode.specs.Sizes.{openSuccessBase, closeSuccessBase, appRules, successSize, wordWidth, remainingWidth, failureWidth, failureSize}
 use Rattle.reply_encode.proofs.Lengths.{open-reply-length, close-reply-length, failure-length}

@@ -11,9 +11,9 @@ use Rattle.connection.specs.declared.ForwardRequestFail.{ForwardRequestFail}
 use Rattle.connection.specs.declared.RemainingPathSize.{RemainingPathSize}
 use Rattle.connection.specs.declared.RemainingPathSize.the-variants.{Absent as NoSize, Words}
 use Rattle.connection_words.specs.Requests.{triad}
-use Rattle.reply_header.specs.Headers.{headerFields}
-use Rattle.reply_header.specs.declared.ExtendedStatus.the-variants.{Absent as NoExtended}
-use Rattle.reply_header.specs.declared.Status.{Status}
+use Rattle.statuses.specs.Layouts.{headerFields}
+use Rattle.statuses.specs.declared.ExtendedStatus.the-variants.{Absent as NoExtended}
+use Rattle.statuses.specs.declared.Status.{Status}
 
 -- ---- success: general status 0 and no extended word
 

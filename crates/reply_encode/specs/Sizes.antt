@@ -8,9 +8,9 @@ use Rattle.connection.specs.Limits.{maxAppData}
 use Rattle.connection.specs.declared.ForwardRequestFail.{ForwardRequestFail}
 use Rattle.connection.specs.declared.RemainingPathSize.{RemainingPathSize}
 use Rattle.connection.specs.declared.RemainingPathSize.the-variants.{Absent as NoSize, Words}
-use Rattle.reply_header.specs.declared.ExtendedStatus.{ExtendedStatus}
-use Rattle.reply_header.specs.declared.ExtendedStatus.the-variants.{Absent as NoExtended, Word}
-use Rattle.reply_header.specs.declared.Status.{Status}
+use Rattle.statuses.specs.declared.ExtendedStatus.{ExtendedStatus}
+use Rattle.statuses.specs.declared.ExtendedStatus.the-variants.{Absent as NoExtended, Word}
+use Rattle.statuses.specs.declared.Status.{Status}
 
 -- what stands before the application data, header included
 abbrev pub openSuccessBase : ℕ

@@ -2,8 +2,8 @@
 // src/codec/decode/message_reply.rs; the crate has no such writer: added.
 use connection::ForwardRequestFail;
 use connection::RemainingPathSize;
-use reply_header::ExtendedStatus;
-use reply_header::Status;
+use statuses::ExtendedStatus;
+use statuses::Status;
 use triads::put_triad;
 use wire::Refusal;
 use wire::Wrote;
@@ -15,7 +15,7 @@ ghost use lib.ListN.{length};
 ghost use lib.Seq.{sets};
 ghost use Rattle.wire.specs.Answers.{paperSize, withRoom, written, Put};
 ghost use Rattle.wire.specs.Records.{laid};
-ghost use Rattle.reply_header.specs.Headers.{headerFields};
+ghost use Rattle.statuses.specs.Layouts.{headerFields};
 ghost use Rattle.reply_encode.specs.Replies.{failureBytes};
 ghost use Rattle.reply_encode.specs.Sizes.{failureSize};
 

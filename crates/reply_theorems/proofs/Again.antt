@@ -18,10 +18,11 @@ use Rattle.wire.proofs.Stores.{part-length, part-split}
 use Rattle.connection.specs.declared.ForwardOpenSuccess.{ForwardOpenSuccess}
 use Rattle.connection.specs.declared.ForwardCloseSuccess.{ForwardCloseSuccess}
 use Rattle.connection.specs.declared.ForwardRequestFail.{ForwardRequestFail}
-use Rattle.reply_header.specs.Statuses.{isOk}
-use Rattle.reply_header.specs.Headers.{headerFields, mostWords, dataStart, statusAt, readHeader}
-use Rattle.reply_header.specs.declared.ExtendedStatus.{ExtendedStatus}
-use Rattle.reply_header.specs.declared.ExtendedStatus.the-variants.{Absent, Word}
+use Rattle.statuses.specs.Statuses.{isOk}
+use Rattle.statuses.specs.Layouts.{headerFields}
+use Rattle.statuses.specs.declared.ExtendedStatus.{ExtendedStatus}
+use Rattle.statuses.specs.declared.ExtendedStatus.the-variants.{Absent, Word}
+use Rattle.reply_header.specs.Headers.{mostWords, dataStart, statusAt, readHeader}
 use Rattle.reply_header.specs.declared.MessageReply.{MessageReply}
 use Rattle.reply_header.proofs.HeaderLaws.{Header, header-was}
 use Rattle.reply_encode.specs.Replies.{success, appFields, openSuccessFields, closeSuccessFields, openReplyBytes, closeReplyBytes, failureFields, failureBytes}

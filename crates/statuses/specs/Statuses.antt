@@ -4,9 +4,9 @@ use Prim.Native.Nat.{ℕ}
 use mathlib.Core.Bool.{Bool, true, false}
 use lib.Dec.{eqb}
 use Rattle.wire.specs.Choice.{pick}
-use Rattle.reply_header.specs.declared.ExtendedStatus.{ExtendedStatus}
-use Rattle.reply_header.specs.declared.ExtendedStatus.the-variants.{Absent, Word}
-use Rattle.reply_header.specs.declared.Status.{Status}
+use Rattle.statuses.specs.declared.ExtendedStatus.{ExtendedStatus}
+use Rattle.statuses.specs.declared.ExtendedStatus.the-variants.{Absent, Word}
+use Rattle.statuses.specs.declared.Status.{Status}
 
 -- success is general status 0
 abbrev pub isOk : Status → Bool

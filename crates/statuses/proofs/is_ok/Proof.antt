@@ -1,10 +1,10 @@
--- `reply_header::is_ok` meets its contract. Assumes nothing.
+-- `statuses::is_ok` meets its contract. Assumes nothing.
 --: use Rattle.wire.proofs.Choice.{choice-laws}
 --: * = search (choice-laws, needs) fits 5000
 use Rattle.wire.proofs.Choice.{choice-laws}
-use Rattle.reply_header.proofs.is_ok.Statement.{statement}
+use Rattle.statuses.proofs.is_ok.Statement.{statement}
 use borrow.Author.Needs.{needs}
-use Rattle.reply_header.proofs.is_ok.Tie as tie
+use Rattle.statuses.proofs.is_ok.Tie as tie
 
 returns : tie.Need-returns
 returns c = search (choice-laws, needs) fits 5000

@@ -1,12 +1,12 @@
--- `reply_header::is_routing_error` meets its contract. Assumes nothing.
+-- `statuses::is_routing_error` meets its contract. Assumes nothing.
 --: use Rattle.wire.proofs.Choice.{choice-laws}
---: use Rattle.reply_header.proofs.HeaderLaws.{routing-laws}
+--: use Rattle.statuses.proofs.StatusLaws.{routing-laws}
 --: * = search (routing-laws, choice-laws, needs) fits 5000
 use Rattle.wire.proofs.Choice.{choice-laws}
-use Rattle.reply_header.proofs.HeaderLaws.{routing-laws}
+use Rattle.statuses.proofs.StatusLaws.{routing-laws}
 use borrow.Author.Needs.{needs}
-use Rattle.reply_header.proofs.is_routing_error.Statement.{statement}
-use Rattle.reply_header.proofs.is_routing_error.Tie as tie
+use Rattle.statuses.proofs.is_routing_error.Statement.{statement}
+use Rattle.statuses.proofs.is_routing_error.Tie as tie
 
 enum-told : tie.Need-enum-told
 enum-told c = search needs
