@@ -10,8 +10,8 @@ use Rattle.connection.specs.declared.ForwardRequestFail.{ForwardRequestFail}
 use Rattle.connection.specs.declared.RemainingPathSize.{RemainingPathSize}
 use Rattle.connection.specs.declared.RemainingPathSize.the-variants.{Absent, Words}
 use Rattle.statuses.specs.declared.Status.{Status}
-use Rattle.reply_encode.specs.Replies.{failureBytes}
-use Rattle.reply_encode.specs.Sizes.{failureSize}
+use Rattle.failure_encode.specs.Failures.{failureBytes}
+use Rattle.failure_encode.specs.Sizes.{failureSize}
 use Rattle.c_answers.specs.Codes.{code}
 use Rattle.c_replies.specs.Replies.{statusOf}
 use Rattle.c_reply_writes.specs.Writes.{remainingFrom, failOf}

@@ -83,10 +83,11 @@ use Rattle.statuses.proofs.is_routing_error
 use Rattle.statuses.proofs.Exact as Statuses
 use Rattle.reply_header.proofs.read_reply_header
 use Rattle.reply_header.proofs.Exact as ReplyHeader
-use Rattle.reply_encode.proofs.write_forward_open_success
-use Rattle.reply_encode.proofs.write_forward_close_success
-use Rattle.reply_encode.proofs.write_forward_failure
-use Rattle.reply_encode.proofs.Exact as ReplyEncode
+use Rattle.success_encode.proofs.write_forward_open_success
+use Rattle.success_encode.proofs.write_forward_close_success
+use Rattle.success_encode.proofs.Exact as SuccessEncode
+use Rattle.failure_encode.proofs.write_forward_failure
+use Rattle.failure_encode.proofs.Exact as FailureEncode
 use Rattle.reply.proofs.read_forward_open_reply
 use Rattle.reply.proofs.read_forward_close_reply
 use Rattle.reply.proofs.Exact as Reply
@@ -256,9 +257,10 @@ pub record Claims : Type 2 where
   pub is-routing-error : Exact is_routing_error.ended (λ _. is_routing_error.clauses)
   -- reply_header
   pub read-reply-header : Exact read_reply_header.ended (λ _. read_reply_header.clauses)
-  -- reply_encode
+  -- success_encode
   pub write-forward-open-success : Exact write_forward_open_success.ended (λ _. write_forward_open_success.clauses)
   pub write-forward-close-success : Exact write_forward_close_success.ended (λ _. write_forward_close_success.clauses)
+  -- failure_encode
   pub write-forward-failure : Exact write_forward_failure.ended (λ _. write_forward_failure.clauses)
   -- reply
   pub read-forward-open-reply : Exact read_forward_open_reply.ended (λ _. read_forward_open_reply.clauses)
@@ -406,9 +408,9 @@ claims =
       is-ok = Statuses.is-ok-exact;
       is-routing-error = Statuses.is-routing-error-exact;
       read-reply-header = ReplyHeader.read-reply-header-exact;
-      write-forward-open-success = ReplyEncode.write-forward-open-success-exact;
-      write-forward-close-success = ReplyEncode.write-forward-close-success-exact;
-      write-forward-failure = ReplyEncode.write-forward-failure-exact;
+      write-forward-open-success = SuccessEncode.write-forward-open-success-exact;
+      write-forward-close-success = SuccessEncode.write-forward-close-success-exact;
+      write-forward-failure = FailureEncode.write-forward-failure-exact;
       read-forward-open-reply = Reply.read-forward-open-reply-exact;
       read-forward-close-reply = Reply.read-forward-close-reply-exact;
       read-envelope = Envelope.read-envelope-exact;

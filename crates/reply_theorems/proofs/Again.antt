@@ -25,7 +25,8 @@ use Rattle.statuses.specs.declared.ExtendedStatus.the-variants.{Absent, Word}
 use Rattle.reply_header.specs.Headers.{mostWords, dataStart, statusAt, readHeader}
 use Rattle.reply_header.specs.declared.MessageReply.{MessageReply}
 use Rattle.reply_header.proofs.HeaderLaws.{Header, header-was}
-use Rattle.reply_encode.specs.Replies.{success, appFields, openSuccessFields, closeSuccessFields, openReplyBytes, closeReplyBytes, failureFields, failureBytes}
+use Rattle.success_encode.specs.Replies.{success, appFields, openSuccessFields, closeSuccessFields, openReplyBytes, closeReplyBytes}
+use Rattle.failure_encode.specs.Failures.{failureFields, failureBytes}
 use Rattle.reply.specs.Reads.{succeeded, failed, appData, failSize, failAt, readFail, replyData, readReply, openSuccessAt, readOpenReply, closeSuccessAt, readCloseReply}
 
 -- ---- what an accepted success says of the input
