@@ -88,9 +88,9 @@ use Rattle.success_encode.proofs.write_forward_close_success
 use Rattle.success_encode.proofs.Exact as SuccessEncode
 use Rattle.failure_encode.proofs.write_forward_failure
 use Rattle.failure_encode.proofs.Exact as FailureEncode
-use Rattle.reply.proofs.read_forward_open_reply
-use Rattle.reply.proofs.read_forward_close_reply
-use Rattle.reply.proofs.Exact as Reply
+use Rattle.reply_read.proofs.read_forward_open_reply
+use Rattle.reply_read.proofs.read_forward_close_reply
+use Rattle.reply_read.proofs.Exact as ReplyRead
 use Rattle.envelope.proofs.read_envelope
 use Rattle.envelope.proofs.Exact as Envelope
 use Rattle.body_encode.proofs.body_size
@@ -262,7 +262,7 @@ pub record Claims : Type 2 where
   pub write-forward-close-success : Exact write_forward_close_success.ended (λ _. write_forward_close_success.clauses)
   -- failure_encode
   pub write-forward-failure : Exact write_forward_failure.ended (λ _. write_forward_failure.clauses)
-  -- reply
+  -- reply_read
   pub read-forward-open-reply : Exact read_forward_open_reply.ended (λ _. read_forward_open_reply.clauses)
   pub read-forward-close-reply : Exact read_forward_close_reply.ended (λ _. read_forward_close_reply.clauses)
   -- envelope
@@ -411,8 +411,8 @@ claims =
       write-forward-open-success = SuccessEncode.write-forward-open-success-exact;
       write-forward-close-success = SuccessEncode.write-forward-close-success-exact;
       write-forward-failure = FailureEncode.write-forward-failure-exact;
-      read-forward-open-reply = Reply.read-forward-open-reply-exact;
-      read-forward-close-reply = Reply.read-forward-close-reply-exact;
+      read-forward-open-reply = ReplyRead.read-forward-open-reply-exact;
+      read-forward-close-reply = ReplyRead.read-forward-close-reply-exact;
       read-envelope = Envelope.read-envelope-exact;
       body-size = BodyEncode.body-size-exact;
       write-body = BodyEncode.write-body-exact;

@@ -27,7 +27,7 @@ use Rattle.reply_header.specs.declared.MessageReply.{MessageReply}
 use Rattle.reply_header.proofs.HeaderLaws.{Header, header-was}
 use Rattle.success_encode.specs.Replies.{success, appFields, openSuccessFields, closeSuccessFields, openReplyBytes, closeReplyBytes}
 use Rattle.failure_encode.specs.Failures.{failureFields, failureBytes}
-use Rattle.reply.specs.Reads.{succeeded, failed, appData, failSize, failAt, readFail, replyData, readReply, openSuccessAt, readOpenReply, closeSuccessAt, readCloseReply}
+use Rattle.reply_read.specs.Reads.{succeeded, failed, appData, failSize, failAt, readFail, replyData, readReply, openSuccessAt, readOpenReply, closeSuccessAt, readCloseReply}
 
 -- ---- what an accepted success says of the input
 pub record SuccessWas {A : Type 0} (fields : List ℕ → ℕ → A) (size : ℕ) (s : List ℕ) (m : MessageReply) (x : A) (start len : ℕ) : Type 0 where

@@ -29,7 +29,7 @@ use Rattle.reply_header.specs.Headers.{readHeader}
 use Rattle.reply_header.specs.declared.MessageReply.{MessageReply}
 use Rattle.success_encode.specs.Replies.{success, appFields, openSuccessFields, closeSuccessFields, openReplyBytes, closeReplyBytes}
 use Rattle.failure_encode.specs.Failures.{remainingFields, failureFields, failureBytes}
-use Rattle.reply.specs.Reads.{succeeded, failed, appData, failSize, remainingAt, failAt, readFail, replyData, readReply, openSuccessAt, closeSuccessAt}
+use Rattle.reply_read.specs.Reads.{succeeded, failed, appData, failSize, remainingAt, failAt, readFail, replyData, readReply, openSuccessAt, closeSuccessAt}
 use Rattle.reply_theorems.proofs.Headers.{headed, WordFits, header-read-of-written}
 
 -- ---- application data that a writer takes
