@@ -147,10 +147,12 @@ use Rattle.c_closes.proofs.Exact as CCloses
 use Rattle.c_reply_numbers.proofs.reply_numbers
 use Rattle.c_reply_numbers.proofs.Exact as CReplyNumbers
 use Rattle.c_replies.proofs.bark_read_reply
-use Rattle.c_replies.proofs.status_of
-use Rattle.c_replies.proofs.bark_is_routing_error
-use Rattle.c_replies.proofs.bark_read_envelope
 use Rattle.c_replies.proofs.Exact as CReplies
+use Rattle.c_statuses.proofs.status_of
+use Rattle.c_statuses.proofs.bark_is_routing_error
+use Rattle.c_statuses.proofs.Exact as CStatuses
+use Rattle.c_envelope.proofs.bark_read_envelope
+use Rattle.c_envelope.proofs.Exact as CEnvelope
 use Rattle.c_failure_numbers.proofs.failure_numbers
 use Rattle.c_failure_numbers.proofs.Exact as CFailureNumbers
 use Rattle.c_open_replies.proofs.bark_read_forward_open_reply
@@ -159,8 +161,9 @@ use Rattle.c_close_replies.proofs.bark_read_forward_close_reply
 use Rattle.c_close_replies.proofs.Exact as CCloseReplies
 use Rattle.c_reply_writes.proofs.bark_write_forward_open_success
 use Rattle.c_reply_writes.proofs.bark_write_forward_close_success
-use Rattle.c_reply_writes.proofs.bark_write_forward_failure
 use Rattle.c_reply_writes.proofs.Exact as CReplyWrites
+use Rattle.c_failure_writes.proofs.bark_write_forward_failure
+use Rattle.c_failure_writes.proofs.Exact as CFailureWrites
 use Rattle.c_bodies.proofs.bark_write_body
 use Rattle.c_bodies.proofs.bark_join_bodies
 use Rattle.c_bodies.proofs.Exact as CBodies
@@ -322,8 +325,10 @@ pub record Claims : Type 2 where
   pub reply-numbers : Exact reply_numbers.ended (λ _. reply_numbers.clauses)
   -- c_replies
   pub bark-read-reply : Exact bark_read_reply.ended (λ _. bark_read_reply.clauses)
+  -- c_statuses
   pub status-of : Exact status_of.ended (λ _. status_of.clauses)
   pub bark-is-routing-error : Exact bark_is_routing_error.ended (λ _. bark_is_routing_error.clauses)
+  -- c_envelope
   pub bark-read-envelope : Exact bark_read_envelope.ended (λ _. bark_read_envelope.clauses)
   -- c_failure_numbers
   pub failure-numbers : Exact failure_numbers.ended (λ _. failure_numbers.clauses)
@@ -334,6 +339,7 @@ pub record Claims : Type 2 where
   -- c_reply_writes
   pub bark-write-forward-open-success : Exact bark_write_forward_open_success.ended (λ _. bark_write_forward_open_success.clauses)
   pub bark-write-forward-close-success : Exact bark_write_forward_close_success.ended (λ _. bark_write_forward_close_success.clauses)
+  -- c_failure_writes
   pub bark-write-forward-failure : Exact bark_write_forward_failure.ended (λ _. bark_write_forward_failure.clauses)
   -- c_bodies
   pub bark-write-body : Exact bark_write_body.ended (λ _. bark_write_body.clauses)
@@ -449,15 +455,15 @@ claims =
       bark-write-forward-close = CCloses.bark-write-forward-close-exact;
       reply-numbers = CReplyNumbers.reply-numbers-exact;
       bark-read-reply = CReplies.bark-read-reply-exact;
-      status-of = CReplies.status-of-exact;
-      bark-is-routing-error = CReplies.bark-is-routing-error-exact;
-      bark-read-envelope = CReplies.bark-read-envelope-exact;
+      status-of = CStatuses.status-of-exact;
+      bark-is-routing-error = CStatuses.bark-is-routing-error-exact;
+      bark-read-envelope = CEnvelope.bark-read-envelope-exact;
       failure-numbers = CFailureNumbers.failure-numbers-exact;
       bark-read-forward-open-reply = COpenReplies.bark-read-forward-open-reply-exact;
       bark-read-forward-close-reply = CCloseReplies.bark-read-forward-close-reply-exact;
       bark-write-forward-open-success = CReplyWrites.bark-write-forward-open-success-exact;
       bark-write-forward-close-success = CReplyWrites.bark-write-forward-close-success-exact;
-      bark-write-forward-failure = CReplyWrites.bark-write-forward-failure-exact;
+      bark-write-forward-failure = CFailureWrites.bark-write-forward-failure-exact;
       bark-write-body = CBodies.bark-write-body-exact;
       bark-read-body = CBodyReads.bark-read-body-exact;
       bark-body-item = CBodyReads.bark-body-item-exact;

@@ -1,14 +1,14 @@
--- `c_replies::bark_read_envelope` meets its contract. Assumes nothing.
+-- `c_envelope::bark_read_envelope` meets its contract. Assumes nothing.
 --: use Rattle.envelope.specs.Envelopes.{paperEnvelope}
 --: use Rattle.c_answers.proofs.Laws.{told-answer, told-left}
---: use Rattle.c_replies.specs.Replies.{heldNumbers}
+--: use Rattle.c_envelope.specs.Envelopes.{heldNumbers}
 --: * = search (told-answer paperEnvelope heldNumbers, told-left paperEnvelope heldNumbers, needs) fits 5000
 use Rattle.envelope.specs.Envelopes.{paperEnvelope}
 use Rattle.c_answers.proofs.Laws.{told-answer, told-left}
-use Rattle.c_replies.specs.Replies.{heldNumbers}
+use Rattle.c_envelope.specs.Envelopes.{heldNumbers}
 use borrow.Author.Needs.{needs}
-use Rattle.c_replies.proofs.bark_read_envelope.Statement.{statement}
-use Rattle.c_replies.proofs.bark_read_envelope.Tie as tie
+use Rattle.c_envelope.proofs.bark_read_envelope.Statement.{statement}
+use Rattle.c_envelope.proofs.bark_read_envelope.Tie as tie
 
 read-envelope-requires : tie.Need-read-envelope-requires
 read-envelope-requires c κs = search needs

@@ -5,7 +5,7 @@ use mathlib.Core.Bool.{Bool, true, false}
 use Rattle.statuses.specs.Statuses.{isRoutingError}
 use Rattle.statuses.specs.declared.ExtendedStatus.the-variants.{Absent, Word}
 use Rattle.statuses.specs.declared.Status.{Status}
-use Rattle.c_replies.specs.Replies.{statusOf}
+use Rattle.c_statuses.specs.Statuses.{statusOf}
 
 module _ (general : ℕ) (hasWord : Bool) (word : ℕ) where
   pub status-word : hasWord ≡ true → record { general = general; extended = Word word } ≡ statusOf general hasWord word

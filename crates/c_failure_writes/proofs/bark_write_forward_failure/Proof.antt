@@ -1,10 +1,10 @@
--- `c_reply_writes::bark_write_forward_failure` meets its contract. Assumes nothing.
---: use Rattle.c_reply_writes.proofs.WriteLaws.{failure-laws}
+-- `c_failure_writes::bark_write_forward_failure` meets its contract. Assumes nothing.
+--: use Rattle.c_failure_writes.proofs.WriteLaws.{failure-laws}
 --: * = search (failure-laws, needs) fits 5000
-use Rattle.c_reply_writes.proofs.WriteLaws.{failure-laws}
+use Rattle.c_failure_writes.proofs.WriteLaws.{failure-laws}
 use borrow.Author.Needs.{needs}
-use Rattle.c_reply_writes.proofs.bark_write_forward_failure.Statement.{statement}
-use Rattle.c_reply_writes.proofs.bark_write_forward_failure.Tie as tie
+use Rattle.c_failure_writes.proofs.bark_write_forward_failure.Statement.{statement}
+use Rattle.c_failure_writes.proofs.bark_write_forward_failure.Tie as tie
 
 status-of-requires : tie.Need-status-of-requires
 status-of-requires c κs = search needs

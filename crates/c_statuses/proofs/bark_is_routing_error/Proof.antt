@@ -1,10 +1,10 @@
--- `c_replies::bark_is_routing_error` meets its contract. Assumes nothing.
---: use Rattle.c_replies.proofs.ReplyLaws.{routing-is}
+-- `c_statuses::bark_is_routing_error` meets its contract. Assumes nothing.
+--: use Rattle.c_statuses.proofs.StatusLaws.{routing-is}
 --: * = search (routing-is, needs) fits 5000
-use Rattle.c_replies.proofs.ReplyLaws.{routing-is}
+use Rattle.c_statuses.proofs.StatusLaws.{routing-is}
 use borrow.Author.Needs.{needs}
-use Rattle.c_replies.proofs.bark_is_routing_error.Statement.{statement}
-use Rattle.c_replies.proofs.bark_is_routing_error.Tie as tie
+use Rattle.c_statuses.proofs.bark_is_routing_error.Statement.{statement}
+use Rattle.c_statuses.proofs.bark_is_routing_error.Tie as tie
 
 status-of-requires : tie.Need-status-of-requires
 status-of-requires c κs = search needs

@@ -1,10 +1,10 @@
--- `c_replies::status_of` meets its contract. Assumes nothing.
---: use Rattle.c_replies.proofs.ReplyLaws.{status-laws}
+-- `c_statuses::status_of` meets its contract. Assumes nothing.
+--: use Rattle.c_statuses.proofs.StatusLaws.{status-laws}
 --: * = search (status-laws, needs) fits 5000
-use Rattle.c_replies.proofs.ReplyLaws.{status-laws}
-use Rattle.c_replies.proofs.status_of.Statement.{statement}
+use Rattle.c_statuses.proofs.StatusLaws.{status-laws}
+use Rattle.c_statuses.proofs.status_of.Statement.{statement}
 use borrow.Author.Needs.{needs}
-use Rattle.c_replies.proofs.status_of.Tie as tie
+use Rattle.c_statuses.proofs.status_of.Tie as tie
 
 returns : tie.Need-returns
 returns c = search (status-laws, needs) fits 5000

@@ -1,10 +1,10 @@
--- Each end of the functions for C that write a reply, as a law with plain conditions. Assumes nothing.
+-- Each end of the function for C that writes a failure, as a law with plain conditions. Assumes nothing.
 use Prim.Native.Nat.{ℕ}
 use mathlib.Core.Path.{_≡_, sym, ap, _∙_}
 use mathlib.Core.List.{List}
 use mathlib.Core.Bool.{Bool, true, false}
 use lib.ListN.{length}
-use Rattle.wire.specs.Answers.{Answer, paperSize, withRoom, written}
+use Rattle.wire.specs.Answers.{paperSize, withRoom, written}
 use Rattle.wire.specs.declared.Wrote.{Wrote}
 use Rattle.connection.specs.declared.ForwardRequestFail.{ForwardRequestFail}
 use Rattle.connection.specs.declared.RemainingPathSize.{RemainingPathSize}
@@ -13,8 +13,8 @@ use Rattle.statuses.specs.declared.Status.{Status}
 use Rattle.failure_encode.specs.Failures.{failureBytes}
 use Rattle.failure_encode.specs.Sizes.{failureSize}
 use Rattle.c_answers.specs.Codes.{code}
-use Rattle.c_replies.specs.Replies.{statusOf}
-use Rattle.c_reply_writes.specs.Writes.{remainingFrom, failOf}
+use Rattle.c_statuses.specs.Statuses.{statusOf}
+use Rattle.c_failure_writes.specs.Failures.{remainingFrom, failOf}
 
 -- ---- the size of the path that was left
 module _ (hasRemaining : Bool) (remaining : ℕ) where
