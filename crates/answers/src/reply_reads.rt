@@ -8,7 +8,7 @@ use connection::RemainingPathSize;
 use envelope::EnvelopeRead;
 use reply::CloseReplyRead;
 use reply::OpenReplyRead;
-use reply_header::ExtendedStatus;
+use statuses::ExtendedStatus;
 use reply_header::MessageReply;
 use reply_header::ReplyRead;
 use triads::put_triad;

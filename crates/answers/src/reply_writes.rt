@@ -5,8 +5,8 @@ use connection::ForwardCloseSuccess;
 use connection::ForwardOpenSuccess;
 use connection::ForwardRequestFail;
 use connection::RemainingPathSize;
-use reply_header::ExtendedStatus;
-use reply_header::Status;
+use statuses::ExtendedStatus;
+use statuses::Status;
 
 fn put_open(
     service: u8,

@@ -4,8 +4,8 @@ use mathlib.Core.Path.{_≡_, refl}
 use mathlib.Core.List.{List, [], _∷_}
 use Rattle.wire.specs.Numbers.{valueOf}
 use Rattle.wire.specs.Answers.{done, refused, breaks, judged}
+use Rattle.statuses.specs.declared.ExtendedStatus.the-variants.{Absent}
 use Rattle.reply_header.specs.Headers.{readHeader}
-use Rattle.reply_header.specs.declared.ExtendedStatus.the-variants.{Absent}
 use Rattle.body_read.specs.Reads.{readBody}
 use Rattle.body_items.specs.Items.{bodyItem}
 use Rattle.body_replies.specs.Replies.{bodyReply}

@@ -10,8 +10,8 @@ use Rattle.wire.specs.Answers.{Answer, done, refused, andThen}
 use Rattle.wire.proofs.Rules.{then-done}
 use Rattle.wire.proofs.Stores.{part-length}
 use Rattle.connection.specs.Limits.{maxRecord}
+use Rattle.statuses.specs.declared.Status.{Status}
 use Rattle.reply_header.specs.Headers.{readHeader}
-use Rattle.reply_header.specs.declared.Status.{Status}
 use Rattle.reply_header.specs.declared.MessageReply.{MessageReply}
 use Rattle.reply_theorems.proofs.Headers.{Rest, header-rest}
 use Rattle.body_encode.specs.Bodies.{bodyOf}

@@ -2,8 +2,8 @@
 use Prim.Native.Nat.{ℕ}
 use mathlib.Core.List.{List, [], _∷_}
 use Rattle.wire.specs.Answers.{Answer}
-use Rattle.reply_header.specs.declared.ExtendedStatus.{ExtendedStatus}
-use Rattle.reply_header.specs.declared.ExtendedStatus.the-variants.{Absent, Word}
+use Rattle.statuses.specs.declared.ExtendedStatus.{ExtendedStatus}
+use Rattle.statuses.specs.declared.ExtendedStatus.the-variants.{Absent, Word}
 use Rattle.reply_header.specs.declared.MessageReply.{MessageReply}
 use Rattle.c_answers.specs.Codes.{runOf}
 

@@ -1,5 +1,5 @@
 // The six numbers of a reply's header, as every function for C that reads a reply fills them.
-use reply_header::ExtendedStatus;
+use statuses::ExtendedStatus;
 use reply_header::MessageReply;
 ghost use mathlib.Core.Path.{_≡_};
 ghost use Rattle.c_reply_numbers.specs.Numbers.{extendedWords, extendedWord, replyNumbers};

@@ -1,21 +1,16 @@
-// The replies to Forward Open and Forward Close, for C: written. include/barkcushion.h says what each answers.
+// The replies to a Forward Open and a Forward Close that were served, for C: written. include/barkcushion.h says what each answers.
 use c_answers::size_answer;
-use c_replies::status_of;
 use connection::ForwardCloseSuccess;
 use connection::ForwardOpenSuccess;
-use connection::ForwardRequestFail;
-use connection::RemainingPathSize;
-use reply_encode::write_forward_close_success;
-use reply_encode::write_forward_failure;
-use reply_encode::write_forward_open_success;
+use success_encode::write_forward_close_success;
+use success_encode::write_forward_open_success;
 ghost use mathlib.Core.Path.{_≡_};
 ghost use lib.ListN.{length};
 ghost use Rattle.wire.specs.Answers.{withRoom, written};
-ghost use Rattle.reply_encode.specs.Replies.{openReplyBytes, closeReplyBytes, failureBytes};
-ghost use Rattle.reply_encode.specs.Sizes.{openSuccessBase, closeSuccessBase, successSize, failureSize};
+ghost use Rattle.success_encode.specs.Replies.{openReplyBytes, closeReplyBytes};
+ghost use Rattle.success_encode.specs.Sizes.{openSuccessBase, closeSuccessBase, successSize};
 ghost use Rattle.c_answers.specs.Codes.{code};
-ghost use Rattle.c_replies.specs.Replies.{statusOf};
-ghost use Rattle.c_reply_writes.specs.Writes.{openedOf, closedOf, remainingFrom, failOf};
+ghost use Rattle.c_reply_writes.specs.Writes.{openedOf, closedOf};
 
 // Writes the reply to a Forward Open that was served.
 #[no_mangle]
@@ -65,42 +60,4 @@ pub extern "C" fn bark_write_forward_close_success(
         originator_serial_number,
     };
     size_answer(write_forward_close_success(service, c, app_data, out))
-}
-
-// The size of the path that was left, if there is one.
-fn remaining_from(has_remaining: bool, remaining: u8) -> RemainingPathSize
-    ensures { λ r. ⌜ r ≡ remainingFrom «has_remaining» remaining ⌝ }
-{
-    if has_remaining {
-        return RemainingPathSize::Words(remaining);
-    }
-    RemainingPathSize::Absent
-}
-
-// Writes the reply to either that failed.
-#[no_mangle]
-pub extern "C" fn bark_write_forward_failure(
-    service: u8,
-    general: u8,
-    has_word: bool,
-    word: u16,
-    connection_serial_number: u16,
-    vendor_id: u16,
-    originator_serial_number: u32,
-    has_remaining: bool,
-    remaining: u8,
-    out: &mut [u8],
-) -> usize
-    ensures answer { λ r. ⌜ r ≡ code (withRoom (failureSize (statusOf general «has_word» word) (failOf «connection_serial_number» «vendor_id» «originator_serial_number» «has_remaining» remaining)) (length (now (out .entry)))) ⌝ }
-    ensures bytes { λ _. ⌜ now (out .exit) ≡ written (withRoom (failureSize (statusOf general «has_word» word) (failOf «connection_serial_number» «vendor_id» «originator_serial_number» «has_remaining» remaining)) (length (now (out .entry)))) (failureBytes service (statusOf general «has_word» word) (failOf «connection_serial_number» «vendor_id» «originator_serial_number» «has_remaining» remaining)) (now (out .entry)) ⌝ }
-{
-    let status = status_of(general, has_word, word);
-    let remaining_path_size = remaining_from(has_remaining, remaining);
-    let f = ForwardRequestFail {
-        connection_serial_number,
-        originator_vendor_id: vendor_id,
-        originator_serial_number,
-        remaining_path_size,
-    };
-    size_answer(write_forward_failure(service, status, f, out))
 }

@@ -12,9 +12,9 @@ use Rattle.epath_sizes.specs.Sizes.{segmentSize}
 use Rattle.epath_sizes.specs.declared.Segment.{Segment}
 use Rattle.epath_sizes.specs.declared.Segment.the-variants.{Symbol, Element, Port}
 use Rattle.epath_check.specs.Paths.{checkPath}
+use Rattle.statuses.specs.declared.ExtendedStatus.{ExtendedStatus}
+use Rattle.statuses.specs.declared.ExtendedStatus.the-variants.{Absent, Word}
 use Rattle.reply_header.specs.Headers.{readHeader}
-use Rattle.reply_header.specs.declared.ExtendedStatus.{ExtendedStatus}
-use Rattle.reply_header.specs.declared.ExtendedStatus.the-variants.{Absent, Word}
 use Rattle.body.specs.Joins.{joinOf, joinSize}
 use Rattle.nested.specs.Nested.{sameBytes}
 

@@ -1,7 +1,7 @@
 // The cards on replies and bodies.
 use crate::recorded;
 use crate::show;
-use reply_header::ExtendedStatus;
+use statuses::ExtendedStatus;
 use reply_header::ReplyRead;
 
 // A reply's word of extended status, low byte first at the front of out.

@@ -79,17 +79,19 @@ use Rattle.forward_read.proofs.read_forward_close
 use Rattle.forward_read.proofs.Exact as ForwardRead
 use Rattle.request.proofs.read_unconnected_send
 use Rattle.request.proofs.Exact as Request
-use Rattle.reply_header.proofs.is_ok
-use Rattle.reply_header.proofs.is_routing_error
+use Rattle.statuses.proofs.is_ok
+use Rattle.statuses.proofs.is_routing_error
+use Rattle.statuses.proofs.Exact as Statuses
 use Rattle.reply_header.proofs.read_reply_header
 use Rattle.reply_header.proofs.Exact as ReplyHeader
-use Rattle.reply_encode.proofs.write_forward_open_success
-use Rattle.reply_encode.proofs.write_forward_close_success
-use Rattle.reply_encode.proofs.write_forward_failure
-use Rattle.reply_encode.proofs.Exact as ReplyEncode
-use Rattle.reply.proofs.read_forward_open_reply
-use Rattle.reply.proofs.read_forward_close_reply
-use Rattle.reply.proofs.Exact as Reply
+use Rattle.success_encode.proofs.write_forward_open_success
+use Rattle.success_encode.proofs.write_forward_close_success
+use Rattle.success_encode.proofs.Exact as SuccessEncode
+use Rattle.failure_encode.proofs.write_forward_failure
+use Rattle.failure_encode.proofs.Exact as FailureEncode
+use Rattle.reply_read.proofs.read_forward_open_reply
+use Rattle.reply_read.proofs.read_forward_close_reply
+use Rattle.reply_read.proofs.Exact as ReplyRead
 use Rattle.envelope.proofs.read_envelope
 use Rattle.envelope.proofs.Exact as Envelope
 use Rattle.body_encode.proofs.body_size
@@ -147,10 +149,12 @@ use Rattle.c_closes.proofs.Exact as CCloses
 use Rattle.c_reply_numbers.proofs.reply_numbers
 use Rattle.c_reply_numbers.proofs.Exact as CReplyNumbers
 use Rattle.c_replies.proofs.bark_read_reply
-use Rattle.c_replies.proofs.status_of
-use Rattle.c_replies.proofs.bark_is_routing_error
-use Rattle.c_replies.proofs.bark_read_envelope
 use Rattle.c_replies.proofs.Exact as CReplies
+use Rattle.c_statuses.proofs.status_of
+use Rattle.c_statuses.proofs.bark_is_routing_error
+use Rattle.c_statuses.proofs.Exact as CStatuses
+use Rattle.c_envelope.proofs.bark_read_envelope
+use Rattle.c_envelope.proofs.Exact as CEnvelope
 use Rattle.c_failure_numbers.proofs.failure_numbers
 use Rattle.c_failure_numbers.proofs.Exact as CFailureNumbers
 use Rattle.c_open_replies.proofs.bark_read_forward_open_reply
@@ -159,8 +163,9 @@ use Rattle.c_close_replies.proofs.bark_read_forward_close_reply
 use Rattle.c_close_replies.proofs.Exact as CCloseReplies
 use Rattle.c_reply_writes.proofs.bark_write_forward_open_success
 use Rattle.c_reply_writes.proofs.bark_write_forward_close_success
-use Rattle.c_reply_writes.proofs.bark_write_forward_failure
 use Rattle.c_reply_writes.proofs.Exact as CReplyWrites
+use Rattle.c_failure_writes.proofs.bark_write_forward_failure
+use Rattle.c_failure_writes.proofs.Exact as CFailureWrites
 use Rattle.c_bodies.proofs.bark_write_body
 use Rattle.c_bodies.proofs.bark_join_bodies
 use Rattle.c_bodies.proofs.Exact as CBodies
@@ -253,15 +258,17 @@ pub record Claims : Type 2 where
   pub read-forward-close : Exact read_forward_close.ended (λ _. read_forward_close.clauses)
   -- request
   pub read-unconnected-send : Exact read_unconnected_send.ended (λ _. read_unconnected_send.clauses)
-  -- reply_header
+  -- statuses
   pub is-ok : Exact is_ok.ended (λ _. is_ok.clauses)
   pub is-routing-error : Exact is_routing_error.ended (λ _. is_routing_error.clauses)
+  -- reply_header
   pub read-reply-header : Exact read_reply_header.ended (λ _. read_reply_header.clauses)
-  -- reply_encode
+  -- success_encode
   pub write-forward-open-success : Exact write_forward_open_success.ended (λ _. write_forward_open_success.clauses)
   pub write-forward-close-success : Exact write_forward_close_success.ended (λ _. write_forward_close_success.clauses)
+  -- failure_encode
   pub write-forward-failure : Exact write_forward_failure.ended (λ _. write_forward_failure.clauses)
-  -- reply
+  -- reply_read
   pub read-forward-open-reply : Exact read_forward_open_reply.ended (λ _. read_forward_open_reply.clauses)
   pub read-forward-close-reply : Exact read_forward_close_reply.ended (λ _. read_forward_close_reply.clauses)
   -- envelope
@@ -322,8 +329,10 @@ pub record Claims : Type 2 where
   pub reply-numbers : Exact reply_numbers.ended (λ _. reply_numbers.clauses)
   -- c_replies
   pub bark-read-reply : Exact bark_read_reply.ended (λ _. bark_read_reply.clauses)
+  -- c_statuses
   pub status-of : Exact status_of.ended (λ _. status_of.clauses)
   pub bark-is-routing-error : Exact bark_is_routing_error.ended (λ _. bark_is_routing_error.clauses)
+  -- c_envelope
   pub bark-read-envelope : Exact bark_read_envelope.ended (λ _. bark_read_envelope.clauses)
   -- c_failure_numbers
   pub failure-numbers : Exact failure_numbers.ended (λ _. failure_numbers.clauses)
@@ -334,6 +343,7 @@ pub record Claims : Type 2 where
   -- c_reply_writes
   pub bark-write-forward-open-success : Exact bark_write_forward_open_success.ended (λ _. bark_write_forward_open_success.clauses)
   pub bark-write-forward-close-success : Exact bark_write_forward_close_success.ended (λ _. bark_write_forward_close_success.clauses)
+  -- c_failure_writes
   pub bark-write-forward-failure : Exact bark_write_forward_failure.ended (λ _. bark_write_forward_failure.clauses)
   -- c_bodies
   pub bark-write-body : Exact bark_write_body.ended (λ _. bark_write_body.clauses)
@@ -405,14 +415,14 @@ claims =
       read-forward-open = ForwardRead.read-forward-open-exact;
       read-forward-close = ForwardRead.read-forward-close-exact;
       read-unconnected-send = Request.read-unconnected-send-exact;
-      is-ok = ReplyHeader.is-ok-exact;
-      is-routing-error = ReplyHeader.is-routing-error-exact;
+      is-ok = Statuses.is-ok-exact;
+      is-routing-error = Statuses.is-routing-error-exact;
       read-reply-header = ReplyHeader.read-reply-header-exact;
-      write-forward-open-success = ReplyEncode.write-forward-open-success-exact;
-      write-forward-close-success = ReplyEncode.write-forward-close-success-exact;
-      write-forward-failure = ReplyEncode.write-forward-failure-exact;
-      read-forward-open-reply = Reply.read-forward-open-reply-exact;
-      read-forward-close-reply = Reply.read-forward-close-reply-exact;
+      write-forward-open-success = SuccessEncode.write-forward-open-success-exact;
+      write-forward-close-success = SuccessEncode.write-forward-close-success-exact;
+      write-forward-failure = FailureEncode.write-forward-failure-exact;
+      read-forward-open-reply = ReplyRead.read-forward-open-reply-exact;
+      read-forward-close-reply = ReplyRead.read-forward-close-reply-exact;
       read-envelope = Envelope.read-envelope-exact;
       body-size = BodyEncode.body-size-exact;
       write-body = BodyEncode.write-body-exact;
@@ -449,15 +459,15 @@ claims =
       bark-write-forward-close = CCloses.bark-write-forward-close-exact;
       reply-numbers = CReplyNumbers.reply-numbers-exact;
       bark-read-reply = CReplies.bark-read-reply-exact;
-      status-of = CReplies.status-of-exact;
-      bark-is-routing-error = CReplies.bark-is-routing-error-exact;
-      bark-read-envelope = CReplies.bark-read-envelope-exact;
+      status-of = CStatuses.status-of-exact;
+      bark-is-routing-error = CStatuses.bark-is-routing-error-exact;
+      bark-read-envelope = CEnvelope.bark-read-envelope-exact;
       failure-numbers = CFailureNumbers.failure-numbers-exact;
       bark-read-forward-open-reply = COpenReplies.bark-read-forward-open-reply-exact;
       bark-read-forward-close-reply = CCloseReplies.bark-read-forward-close-reply-exact;
       bark-write-forward-open-success = CReplyWrites.bark-write-forward-open-success-exact;
       bark-write-forward-close-success = CReplyWrites.bark-write-forward-close-success-exact;
-      bark-write-forward-failure = CReplyWrites.bark-write-forward-failure-exact;
+      bark-write-forward-failure = CFailureWrites.bark-write-forward-failure-exact;
       bark-write-body = CBodies.bark-write-body-exact;
       bark-read-body = CBodyReads.bark-read-body-exact;
       bark-body-item = CBodyReads.bark-body-item-exact;

@@ -1,38 +1,20 @@
--- Each end of the header's reader and of what a status says, as a law with plain conditions. Assumes nothing.
+-- Each end of the header's reader, as a law with plain conditions. Assumes nothing.
 use Prim.Native.Nat.{ℕ, _+_, _*_, _-_, _≤_, _<_}
 use mathlib.Core.Path.{_≡_, refl, sym, ap, _∙_}
 use mathlib.Core.List.{List}
-use mathlib.Core.Bool.{Bool, true, false}
 use native.Mathlib.Omega.{arith}
 use lib.ListN.{length, getD, drop}
-use lib.Dec.{eqb}
-use Rattle.wire.specs.Choice.{pick}
 use Rattle.wire.specs.Numbers.{valueOf}
 use Rattle.wire.specs.Answers.{done, refused}
 use Rattle.wire.proofs.Rules.{rules, all-were}
 use Rattle.wire.proofs.Choice.{pick-here, pick-past}
 use Rattle.connection.specs.Limits.{maxRecord}
-use Rattle.reply_header.specs.Statuses.{routingWord, routingExtended, isRoutingError}
 use Rattle.reply_header.specs.Headers.{mostWords, dataStart, headerRules, statusAt, replyAt, readHeader}
-use Rattle.reply_header.specs.declared.ExtendedStatus.{ExtendedStatus}
-use Rattle.reply_header.specs.declared.ExtendedStatus.the-variants.{Absent, Word}
-use Rattle.reply_header.specs.declared.Status.{Status}
+use Rattle.statuses.specs.declared.ExtendedStatus.{ExtendedStatus}
+use Rattle.statuses.specs.declared.ExtendedStatus.the-variants.{Absent, Word}
+use Rattle.statuses.specs.declared.Status.{Status}
 use Rattle.reply_header.specs.declared.MessageReply.{MessageReply}
 
--- ---- a routing error behind general status 1, by its word
-module _ (s : Status) (h : s .general ≡ 1) where
-  first : (r : Bool) → r ≡ routingExtended (s .extended) → r ≡ isRoutingError s
-  first r e = pick-here (s .general) 1 (routingExtended (s .extended)) (pick (eqb (s .general) 2) true (pick (eqb (s .general) 4) true false)) r h e
-
-  pub routing-bare : s .extended ≡ Absent → false ≡ isRoutingError s
-  routing-bare e = first false (sym (ap routingExtended e))
-
-  pub routing-by-word : (w : ℕ) (r : Bool) → s .extended ≡ Word w → r ≡ routingWord w → r ≡ isRoutingError s
-  routing-by-word w r e f = first r (f ∙ sym (ap routingExtended e))
-
-pub ruleset routing-laws = (routing-bare, routing-by-word)
-
--- ---- the header
 module _ (s : List ℕ) where
   module _ (a w : ℕ) (is : a ≡ getD s 2 0) (counted : w ≡ getD s 3 0) where
     told : (x : ExtendedStatus) → x ≡ statusAt s .extended → record { general = a; extended = x } ≡ statusAt s

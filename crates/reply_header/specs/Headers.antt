@@ -1,5 +1,5 @@
--- A reply's header: its bytes, and its reader. CIP Volume 1, 2-4.2 (message router response); rules and numbers from document 01, "Replies":
--- service, a reserved byte, general status, word count s, 2s bytes, and then data. Assumes nothing: these are definitions.
+-- A reply's header, read. CIP Volume 1, 2-4.2 (message router response); rules and numbers from document 01, "Replies": service, a reserved byte,
+-- general status, word count s, 2s bytes, and then data. Its layout stands in statuses. Assumes nothing: these are definitions.
 use Prim.Native.Nat.{ℕ, _+_, _*_, _-_}
 use mathlib.Core.List.{List, [], _∷_}
 use lib.ListN.{length, getD, drop}
@@ -7,26 +7,13 @@ use lib.Dec.{eqb}
 use Rattle.wire.specs.Choice.{pick}
 use Rattle.wire.specs.Numbers.{valueOf}
 use Rattle.wire.specs.Refusals.{number}
-use Rattle.wire.specs.Records.{Field, byte, num}
 use Rattle.wire.specs.Answers.{Answer, done, refused, Rule, under, over, judged}
 use Rattle.connection.specs.Limits.{maxRecord}
-use Rattle.reply_header.specs.declared.ExtendedStatus.{ExtendedStatus}
-use Rattle.reply_header.specs.declared.ExtendedStatus.the-variants.{Absent, Word}
-use Rattle.reply_header.specs.declared.Status.{Status}
+use Rattle.statuses.specs.declared.ExtendedStatus.the-variants.{Absent, Word}
+use Rattle.statuses.specs.declared.Status.{Status}
 use Rattle.reply_header.specs.declared.MessageReply.{MessageReply}
 use Rattle.reply_header.specs.declared.ReplyRead.{ReplyRead}
 use Rattle.reply_header.specs.declared.ReplyRead.the-variants.{Found, Refused}
-
--- ---- the bytes
-
-abbrev pub extendedFields : ExtendedStatus → List Field
-extendedFields Absent = byte 0 ∷ []
-extendedFields (Word w) = byte 1 ∷ num 2 w ∷ []
-
-abbrev pub headerFields : ℕ → Status → List Field
-headerFields service s = byte service ∷ byte 0 ∷ byte (s .general) ∷ extendedFields (s .extended)
-
--- ---- the reader
 
 -- words of extended status that are read
 abbrev pub mostWords : ℕ

@@ -1,25 +1,15 @@
-// A reply's status and header. Beside it in rseip-cip: src/status.rs, `MessageReply` in src/message.rs, and `decode_service_and_status` in
-// src/codec/decode/message_reply.rs.
+// A reply's header: service, a reserved byte, general status, word count, extended words. Beside it in rseip-cip: `MessageReply` in src/message.rs,
+// and `decode_service_and_status` in src/codec/decode/message_reply.rs.
+use statuses::ExtendedStatus;
+use statuses::Status;
 use wire::Refusal;
 use wire_read::byte_at;
 use wire_read::u16_at;
 ghost use mathlib.Core.Path.{_≡_};
-ghost use Rattle.reply_header.specs.Statuses.{isOk, routingWord, isRoutingError};
 ghost use Rattle.reply_header.specs.Headers.{statusAt, readHeader, paperReply};
 
 // Words of extended status; its twin stands in specs/Headers.antt.
 const MOST_WORDS: u8 = 1;
-
-// One word, or none.
-pub enum ExtendedStatus {
-    Absent,
-    Word(u16),
-}
-
-pub struct Status {
-    pub general: u8,
-    pub extended: ExtendedStatus,
-}
 
 // Service and status, and the part of the reply that is data.
 pub struct MessageReply {
@@ -33,59 +23,6 @@ pub enum ReplyRead {
     Found(MessageReply),
     Refused(Refusal),
 }
-
-// ---- what a status says
-
-// Whether the request was served.
-pub fn is_ok(status: Status) -> bool
-    ensures { λ r. ⌜ r ≡ isOk status ⌝ }
-{
-    if status.general == 0 {
-        return true;
-    }
-    false
-}
-
-// The words that, behind general status 1, tell of the way and not of the target.
-fn is_routing_word(word: u16) -> bool
-    ensures { λ r. ⌜ r ≡ routingWord word ⌝ }
-{
-    if word == 0x0204 {
-        return true;
-    }
-    if word == 0x0311 {
-        return true;
-    }
-    if word == 0x0312 {
-        return true;
-    }
-    if word == 0x0315 {
-        return true;
-    }
-    false
-}
-
-// Whether a Connection Manager's request failed on its way: its failure record then has the size of the path that was left.
-pub fn is_routing_error(status: Status) -> bool
-    ensures { λ r. ⌜ r ≡ isRoutingError status ⌝ }
-{
-    if status.general == 1 {
-        let extended = status.extended;
-        return match extended {
-            ExtendedStatus::Absent => false,
-            ExtendedStatus::Word(word) => is_routing_word(word),
-        };
-    }
-    if status.general == 2 {
-        return true;
-    }
-    if status.general == 4 {
-        return true;
-    }
-    false
-}
-
-// ---- the header: service, a reserved byte, general status, word count, extended words
 
 // The status in a header that was judged.
 fn status_at(s: &[u8]) -> Status

@@ -18,14 +18,16 @@ use Rattle.wire.proofs.Stores.{part-length, part-split}
 use Rattle.connection.specs.declared.ForwardOpenSuccess.{ForwardOpenSuccess}
 use Rattle.connection.specs.declared.ForwardCloseSuccess.{ForwardCloseSuccess}
 use Rattle.connection.specs.declared.ForwardRequestFail.{ForwardRequestFail}
-use Rattle.reply_header.specs.Statuses.{isOk}
-use Rattle.reply_header.specs.Headers.{headerFields, mostWords, dataStart, statusAt, readHeader}
-use Rattle.reply_header.specs.declared.ExtendedStatus.{ExtendedStatus}
-use Rattle.reply_header.specs.declared.ExtendedStatus.the-variants.{Absent, Word}
+use Rattle.statuses.specs.Statuses.{isOk}
+use Rattle.statuses.specs.Layouts.{headerFields}
+use Rattle.statuses.specs.declared.ExtendedStatus.{ExtendedStatus}
+use Rattle.statuses.specs.declared.ExtendedStatus.the-variants.{Absent, Word}
+use Rattle.reply_header.specs.Headers.{mostWords, dataStart, statusAt, readHeader}
 use Rattle.reply_header.specs.declared.MessageReply.{MessageReply}
 use Rattle.reply_header.proofs.HeaderLaws.{Header, header-was}
-use Rattle.reply_encode.specs.Replies.{success, appFields, openSuccessFields, closeSuccessFields, openReplyBytes, closeReplyBytes, failureFields, failureBytes}
-use Rattle.reply.specs.Reads.{succeeded, failed, appData, failSize, failAt, readFail, replyData, readReply, openSuccessAt, readOpenReply, closeSuccessAt, readCloseReply}
+use Rattle.success_encode.specs.Replies.{success, appFields, openSuccessFields, closeSuccessFields, openReplyBytes, closeReplyBytes}
+use Rattle.failure_encode.specs.Failures.{failureFields, failureBytes}
+use Rattle.reply_read.specs.Reads.{succeeded, failed, appData, failSize, failAt, readFail, replyData, readReply, openSuccessAt, readOpenReply, closeSuccessAt, readCloseReply}
 
 -- ---- what an accepted success says of the input
 pub record SuccessWas {A : Type 0} (fields : List ℕ → ℕ → A) (size : ℕ) (s : List ℕ) (m : MessageReply) (x : A) (start len : ℕ) : Type 0 where

@@ -13,10 +13,11 @@ use Rattle.wire.proofs.Rules.{all-keep}
 use Rattle.wire.proofs.Numbers.{value-low, value-two}
 use Rattle.wire.proofs.Stores.{part-last}
 use Rattle.connection.specs.Limits.{maxRecord}
-use Rattle.reply_header.specs.Headers.{headerFields, dataStart, statusAt, readHeader}
-use Rattle.reply_header.specs.declared.ExtendedStatus.{ExtendedStatus}
-use Rattle.reply_header.specs.declared.ExtendedStatus.the-variants.{Absent, Word}
-use Rattle.reply_header.specs.declared.Status.{Status}
+use Rattle.statuses.specs.Layouts.{headerFields}
+use Rattle.statuses.specs.declared.ExtendedStatus.{ExtendedStatus}
+use Rattle.statuses.specs.declared.ExtendedStatus.the-variants.{Absent, Word}
+use Rattle.statuses.specs.declared.Status.{Status}
+use Rattle.reply_header.specs.Headers.{dataStart, statusAt, readHeader}
 use Rattle.reply_header.specs.declared.MessageReply.{MessageReply}
 use Rattle.reply_header.proofs.HeaderLaws.{Header, header-was}
 

@@ -22,12 +22,14 @@ use Rattle.connection.specs.declared.ForwardRequestFail.{ForwardRequestFail}
 use Rattle.connection.specs.declared.RemainingPathSize.{RemainingPathSize}
 use Rattle.connection.specs.declared.RemainingPathSize.the-variants.{Absent, Words}
 use Rattle.connection_words.specs.Requests.{triad}
-use Rattle.reply_header.specs.Statuses.{isOk}
-use Rattle.reply_header.specs.Headers.{headerFields, readHeader}
-use Rattle.reply_header.specs.declared.Status.{Status}
+use Rattle.statuses.specs.Statuses.{isOk}
+use Rattle.statuses.specs.Layouts.{headerFields}
+use Rattle.statuses.specs.declared.Status.{Status}
+use Rattle.reply_header.specs.Headers.{readHeader}
 use Rattle.reply_header.specs.declared.MessageReply.{MessageReply}
-use Rattle.reply_encode.specs.Replies.{success, appFields, openSuccessFields, closeSuccessFields, openReplyBytes, closeReplyBytes, remainingFields, failureFields, failureBytes}
-use Rattle.reply.specs.Reads.{succeeded, failed, appData, failSize, remainingAt, failAt, readFail, replyData, readReply, openSuccessAt, closeSuccessAt}
+use Rattle.success_encode.specs.Replies.{success, appFields, openSuccessFields, closeSuccessFields, openReplyBytes, closeReplyBytes}
+use Rattle.failure_encode.specs.Failures.{remainingFields, failureFields, failureBytes}
+use Rattle.reply_read.specs.Reads.{succeeded, failed, appData, failSize, remainingAt, failAt, readFail, replyData, readReply, openSuccessAt, closeSuccessAt}
 use Rattle.reply_theorems.proofs.Headers.{headed, WordFits, header-read-of-written}
 
 -- ---- application data that a writer takes

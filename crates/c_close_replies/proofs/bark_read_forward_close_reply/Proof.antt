@@ -1,10 +1,10 @@
 -- `c_close_replies::bark_read_forward_close_reply` meets its contract. Assumes nothing.
---: use Rattle.reply.specs.Reads.{paperCloseReply}
+--: use Rattle.reply_read.specs.Reads.{paperCloseReply}
 --: use Rattle.c_answers.proofs.Laws.{told-answer, told-left, made-answer, made-left}
 --: use Rattle.c_close_replies.specs.CloseReplies.{closeReplyNumbers}
 --: returns = search (told-answer paperCloseReply closeReplyNumbers, told-left paperCloseReply closeReplyNumbers, needs) fits 5000
 --: * = search (made-answer paperCloseReply closeReplyNumbers, made-left paperCloseReply closeReplyNumbers, needs) fits 5000
-use Rattle.reply.specs.Reads.{paperCloseReply}
+use Rattle.reply_read.specs.Reads.{paperCloseReply}
 use Rattle.c_answers.proofs.Laws.{told-answer, told-left, made-answer, made-left}
 use Rattle.c_close_replies.specs.CloseReplies.{closeReplyNumbers}
 use borrow.Author.Needs.{needs}

@@ -1,10 +1,10 @@
 -- `c_open_replies::bark_read_forward_open_reply` meets its contract. Assumes nothing.
---: use Rattle.reply.specs.Reads.{paperOpenReply}
+--: use Rattle.reply_read.specs.Reads.{paperOpenReply}
 --: use Rattle.c_answers.proofs.Laws.{told-answer, told-left, made-answer, made-left}
 --: use Rattle.c_open_replies.specs.OpenReplies.{openReplyNumbers}
 --: returns = search (told-answer paperOpenReply openReplyNumbers, told-left paperOpenReply openReplyNumbers, needs) fits 5000
 --: * = search (made-answer paperOpenReply openReplyNumbers, made-left paperOpenReply openReplyNumbers, needs) fits 5000
-use Rattle.reply.specs.Reads.{paperOpenReply}
+use Rattle.reply_read.specs.Reads.{paperOpenReply}
 use Rattle.c_answers.proofs.Laws.{told-answer, told-left, made-answer, made-left}
 use Rattle.c_open_replies.specs.OpenReplies.{openReplyNumbers}
 use borrow.Author.Needs.{needs}
