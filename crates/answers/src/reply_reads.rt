@@ -8,9 +8,9 @@ use connection::RemainingPathSize;
 use envelope::EnvelopeRead;
 use reply::CloseReplyRead;
 use reply::OpenReplyRead;
-use statuses::ExtendedStatus;
 use reply_header::MessageReply;
 use reply_header::ReplyRead;
+use statuses::ExtendedStatus;
 use triads::put_triad;
 
 // Bytes of an answer up to the status, and where the next field begins.

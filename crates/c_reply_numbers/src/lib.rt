@@ -1,6 +1,6 @@
 // The six numbers of a reply's header, as every function for C that reads a reply fills them.
-use statuses::ExtendedStatus;
 use reply_header::MessageReply;
+use statuses::ExtendedStatus;
 ghost use mathlib.Core.Path.{_≡_};
 ghost use Rattle.c_reply_numbers.specs.Numbers.{extendedWords, extendedWord, replyNumbers};
 

@@ -1,8 +1,8 @@
 // The cards on replies and bodies.
 use crate::recorded;
 use crate::show;
-use statuses::ExtendedStatus;
 use reply_header::ReplyRead;
+use statuses::ExtendedStatus;
 
 // A reply's word of extended status, low byte first at the front of out.
 fn extended(s: &[u8], out: &mut [u8]) -> show::Said {

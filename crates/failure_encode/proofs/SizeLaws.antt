@@ -42,4 +42,3 @@ module _ (r : Wrote) (size : ℕ) (h : r ≡ Size size) where
       let e : done (failureWidth s f) ≡ done size = k .1 in
       let q : size ≡ failureWidth s f = cc in
       q ∙ sym (failure-length service s f)
-
