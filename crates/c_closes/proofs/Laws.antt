@@ -5,9 +5,9 @@ use Rattle.wire.specs.Refusals.{number}
 use Rattle.wire.specs.Answers.{done, refused}
 use Rattle.wire.specs.declared.Refusal.{Refusal}
 use Rattle.connection.specs.declared.ForwardCloseRequest.{ForwardCloseRequest}
-use Rattle.forward_read.specs.Reads.{closed, paperClose}
-use Rattle.forward_read.specs.declared.CloseRead.{CloseRead}
-use Rattle.forward_read.specs.declared.CloseRead.the-variants.{Found, Refused}
+use Rattle.close_read.specs.Reads.{closed, paperClose}
+use Rattle.close_read.specs.declared.CloseRead.{CloseRead}
+use Rattle.close_read.specs.declared.CloseRead.the-variants.{Found, Refused}
 
 pub no-close : (w : CloseRead) (e : Refusal) → w ≡ Refused e → paperClose w ≡ refused (number e)
 no-close w e h = ap paperClose h

@@ -3,7 +3,7 @@ use Prim.Native.Nat.{ℕ}
 use mathlib.Core.List.{List, [], _∷_}
 use Rattle.wire.specs.Answers.{Answer}
 use Rattle.connection.specs.declared.ForwardCloseRequest.{ForwardCloseRequest}
-use Rattle.forward_read.specs.Reads.{Closed, closed, readClose}
+use Rattle.close_read.specs.Reads.{Closed, closed, readClose}
 use Rattle.c_answers.specs.Codes.{runOf}
 
 abbrev pub closedNumbers : Closed → List ℕ

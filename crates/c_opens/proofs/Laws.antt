@@ -13,9 +13,9 @@ use Rattle.connection.specs.declared.OpenOptions.{OpenOptions}
 use Rattle.connection_words.specs.Fields.{parameterWord, paperWord, classTrigger}
 use Rattle.connection_words.specs.declared.Word.{Word}
 use Rattle.connection_words.specs.declared.Word.the-variants.{Bits, Refused as NoWord}
-use Rattle.forward_read.specs.Reads.{opened, paperOpen}
-use Rattle.forward_read.specs.declared.OpenRead.{OpenRead}
-use Rattle.forward_read.specs.declared.OpenRead.the-variants.{Found, Refused}
+use Rattle.open_read.specs.Reads.{opened, paperOpen}
+use Rattle.open_read.specs.declared.OpenRead.{OpenRead}
+use Rattle.open_read.specs.declared.OpenRead.the-variants.{Found, Refused}
 use Rattle.c_answers.specs.Codes.{code, runAnswer, runLeft}
 use Rattle.c_opens.specs.Opens.{wordNumber, openedNumbers, defaultNumbers}
 

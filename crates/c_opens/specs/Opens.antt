@@ -7,7 +7,7 @@ use Rattle.connection.specs.Defaults.{defaultOptions}
 use Rattle.connection.specs.declared.ConnectionParameters.{ConnectionParameters}
 use Rattle.connection.specs.declared.OpenOptions.{OpenOptions}
 use Rattle.connection_words.specs.Fields.{parameterWord, classTrigger}
-use Rattle.forward_read.specs.Reads.{Opened, opened, readOpen}
+use Rattle.open_read.specs.Reads.{Opened, opened, readOpen}
 use Rattle.c_answers.specs.Codes.{runOf}
 
 -- parameters as their word; 0 where a word can't hold them

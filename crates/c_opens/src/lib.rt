@@ -6,12 +6,12 @@ use connection::OpenOptions;
 use connection::default_options;
 use connection_words::Word;
 use connection_words::encode_parameters;
-use forward_read::OpenRead;
-use forward_read::read_forward_open;
+use open_read::OpenRead;
+use open_read::read_forward_open;
 use transport_words::transport_class_trigger;
 ghost use mathlib.Core.Path.{_≡_};
 ghost use Rattle.wire.specs.Answers.{done};
-ghost use Rattle.forward_read.specs.Reads.{opened};
+ghost use Rattle.open_read.specs.Reads.{opened};
 ghost use Rattle.c_answers.specs.Codes.{code, runAnswer, runLeft};
 ghost use Rattle.c_opens.specs.Opens.{wordNumber, openedNumbers, openRun, defaultNumbers};
 

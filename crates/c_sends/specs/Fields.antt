@@ -4,7 +4,7 @@ use Prim.Native.Nat.{ℕ}
 use mathlib.Core.List.{List, [], _∷_}
 use Rattle.wire.specs.Answers.{Answer}
 use Rattle.connection.specs.declared.UnconnectedSend.{UnconnectedSend}
-use Rattle.request.specs.Reads.{Sent, sent, readSend}
+use Rattle.send_read.specs.Reads.{Sent, sent, readSend}
 use Rattle.c_answers.specs.Codes.{runOf}
 
 -- the record of two numbers

@@ -69,16 +69,18 @@ use Rattle.message_encode.proofs.Exact as MessageEncode
 use Rattle.send_encode.proofs.write_unconnected_send
 use Rattle.send_encode.proofs.write_unconnected_send_over
 use Rattle.send_encode.proofs.Exact as SendEncode
+use Rattle.request_first.proofs.first_byte
+use Rattle.request_first.proofs.Exact as RequestFirst
 use Rattle.message_read.proofs.read_message
-use Rattle.message_read.proofs.first_byte
 use Rattle.message_read.proofs.route_at
 use Rattle.message_read.proofs.padded_route_at
 use Rattle.message_read.proofs.Exact as MessageRead
-use Rattle.forward_read.proofs.read_forward_open
-use Rattle.forward_read.proofs.read_forward_close
-use Rattle.forward_read.proofs.Exact as ForwardRead
-use Rattle.request.proofs.read_unconnected_send
-use Rattle.request.proofs.Exact as Request
+use Rattle.open_read.proofs.read_forward_open
+use Rattle.open_read.proofs.Exact as OpenRead
+use Rattle.close_read.proofs.read_forward_close
+use Rattle.close_read.proofs.Exact as CloseRead
+use Rattle.send_read.proofs.read_unconnected_send
+use Rattle.send_read.proofs.Exact as SendRead
 use Rattle.statuses.proofs.is_ok
 use Rattle.statuses.proofs.is_routing_error
 use Rattle.statuses.proofs.Exact as Statuses
@@ -248,15 +250,17 @@ pub record Claims : Type 2 where
   -- send_encode
   pub write-unconnected-send : Exact write_unconnected_send.ended (λ _. write_unconnected_send.clauses)
   pub write-unconnected-send-over : Exact write_unconnected_send_over.ended (λ _. write_unconnected_send_over.clauses)
+  -- request_first
+  pub first-byte : Exact first_byte.ended (λ _. first_byte.clauses)
   -- message_read
   pub read-message : Exact read_message.ended (λ _. read_message.clauses)
-  pub first-byte : Exact first_byte.ended (λ _. first_byte.clauses)
   pub route-at : Exact route_at.ended (λ _. route_at.clauses)
   pub padded-route-at : Exact padded_route_at.ended (λ _. padded_route_at.clauses)
-  -- forward_read
+  -- open_read
   pub read-forward-open : Exact read_forward_open.ended (λ _. read_forward_open.clauses)
+  -- close_read
   pub read-forward-close : Exact read_forward_close.ended (λ _. read_forward_close.clauses)
-  -- request
+  -- send_read
   pub read-unconnected-send : Exact read_unconnected_send.ended (λ _. read_unconnected_send.clauses)
   -- statuses
   pub is-ok : Exact is_ok.ended (λ _. is_ok.clauses)
@@ -408,13 +412,13 @@ claims =
       write-message-over = MessageEncode.write-message-over-exact;
       write-unconnected-send = SendEncode.write-unconnected-send-exact;
       write-unconnected-send-over = SendEncode.write-unconnected-send-over-exact;
+      first-byte = RequestFirst.first-byte-exact;
       read-message = MessageRead.read-message-exact;
-      first-byte = MessageRead.first-byte-exact;
       route-at = MessageRead.route-at-exact;
       padded-route-at = MessageRead.padded-route-at-exact;
-      read-forward-open = ForwardRead.read-forward-open-exact;
-      read-forward-close = ForwardRead.read-forward-close-exact;
-      read-unconnected-send = Request.read-unconnected-send-exact;
+      read-forward-open = OpenRead.read-forward-open-exact;
+      read-forward-close = CloseRead.read-forward-close-exact;
+      read-unconnected-send = SendRead.read-unconnected-send-exact;
       is-ok = Statuses.is-ok-exact;
       is-routing-error = Statuses.is-routing-error-exact;
       read-reply-header = ReplyHeader.read-reply-header-exact;

@@ -3,12 +3,9 @@
 use mathlib.Core.Path.{_≡_, refl, ap}
 use Rattle.exact.specs.Exact.{Exact, exact, says, same}
 use Rattle.wire.proofs.Answers.{one-by, number-back, fromPaper, count-one}
-use Rattle.message_read.specs.Reads.{paperMessage, paperJudged}
+use Rattle.message_read.specs.Reads.{paperMessage}
 use Rattle.message_read.specs.declared.MessageRead.{MessageRead}
 use Rattle.message_read.specs.declared.MessageRead.the-variants.{Found as FoundMessage, Refused as NoMessage}
-use Rattle.message_read.specs.declared.Judged.{Judged}
-use Rattle.message_read.specs.declared.Judged.the-variants.{Kept, Refused as Broken}
-use Rattle.message_read.proofs.first.first_byte
 use Rattle.message_read.proofs.message.read_message
 use Rattle.message_read.proofs.route.route_at
 use Rattle.message_read.proofs.route.padded_route_at
@@ -18,13 +15,7 @@ use Rattle.message_read.proofs.route.padded_route_at
 pub message-one : (a b : MessageRead) → paperMessage a ≡ paperMessage b → a ≡ b
 message-one = one-by paperMessage (fromPaper FoundMessage NoMessage) (elim [ FoundMessage x ↦ refl | NoMessage e ↦ ap NoMessage (number-back e) ])
 
-pub judged-one : (a b : Judged) → paperJudged a ≡ paperJudged b → a ≡ b
-judged-one = one-by paperJudged (fromPaper (λ _. Kept) Broken) (elim [ Kept ↦ refl | Broken e ↦ ap Broken (number-back e) ])
-
 -- ---- readers
-
-pub first-byte-exact : Exact first_byte.ended (λ _. first_byte.clauses)
-first-byte-exact = exact (λ w κs a. (tt, λ m. tt)) (λ w κs a g z e. search says) (λ t. (judged-one (t .z) (t .z′) (same (t .said) (t .said′)), refl))
 
 pub read-message-exact : Exact read_message.ended (λ _. read_message.clauses)
 read-message-exact = exact (λ w κs a. (tt, λ m. tt)) (λ w κs a g z e. search says) (λ t. (message-one (t .z) (t .z′) (same (t .said) (t .said′)), refl))

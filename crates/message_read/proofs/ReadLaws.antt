@@ -6,44 +6,15 @@ use native.Mathlib.Omega.{arith}
 use lib.ListN.{length, getD}
 use Rattle.wire.specs.Parts.{part}
 use Rattle.wire.specs.Refusals.{number}
-use Rattle.wire.specs.Answers.{Answer, done, refused, andThen, Rule, judged, paperCount}
+use Rattle.wire.specs.Answers.{Answer, done, refused, andThen, paperCount}
 use Rattle.wire.specs.declared.Refusal.{Refusal}
 use Rattle.wire.specs.declared.Counted.{Counted}
 use Rattle.wire.specs.declared.Counted.the-variants.{Count, Refused as NotCounted}
-use Rattle.wire.proofs.Rules.{rules, done-same, all-keep, all-were, same-refusal, then-stops, then-goes}
+use Rattle.wire.proofs.Rules.{rules, done-same, all-were, then-stops, then-goes}
 use Rattle.epath_check.specs.Paths.{checkPath}
 use Rattle.connection.specs.Limits.{maxPath, maxRecord}
 use Rattle.message_read.specs.declared.MessageRequest.{MessageRequest}
-use Rattle.message_read.specs.declared.Judged.{Judged}
-use Rattle.message_read.specs.declared.Judged.the-variants.{Kept, Refused as Broken}
-use Rattle.message_read.specs.Reads.{mostTicks, firstRules, pathBytes, pathAt, lastPath, routeAt, paddedRouteAt, messageAt, readMessage, verdict, paperJudged}
-
--- ---- what a callee answered, and the question after it
-
--- rules that a function judged
-module _ {A : Type 0} (rs : List Rule) (y : Answer A) (r : Judged) (is : paperJudged r ≡ verdict rs) where
-  pub kept-stops : (e : Refusal) → r ≡ Broken e → refused (number e) ≡ judged rs y
-  kept-stops e h = sym (same-refusal rs tt y (number e) (sym is ∙ ap paperJudged h))
-
-  pub kept-goes : (z : Answer A) → r ≡ Kept → z ≡ y → z ≡ judged rs y
-  kept-goes z h e = e ∙ sym (all-keep rs y (all-were _ _ tt (sym is ∙ ap paperJudged h) .0))
-
--- ---- the first byte
-module _ (s : List ℕ) where
-  pub first-limit : maxRecord < length s → refused 3 ≡ verdict (firstRules s)
-  first-limit h = search rules
-
-  pub first-short : length s ≤ maxRecord → length s < 1 → refused 1 ≡ verdict (firstRules s)
-  first-short h g = search rules
-
-  module _ (b : ℕ) (is : b ≡ getD s 0 0) (h : length s ≤ maxRecord) (g : 1 ≤ length s) where
-    pub first-form : mostTicks < b → refused 5 ≡ verdict (firstRules s)
-    first-form f = let k : mostTicks < getD s 0 0 = omega arith in search rules
-
-    pub first-kept : b ≤ mostTicks → done tt ≡ verdict (firstRules s)
-    first-kept f = let k : getD s 0 0 ≤ mostTicks = omega arith in search rules
-
-pub ruleset first-laws = (first-limit, first-short, first-form, first-kept)
+use Rattle.message_read.specs.Reads.{pathBytes, pathAt, lastPath, routeAt, paddedRouteAt, messageAt, readMessage}
 
 -- ---- backwards: a size byte that was read, and a path that was judged
 

@@ -5,24 +5,14 @@ use mathlib.Core.List.{List, [], _∷_}
 use lib.ListN.{length, getD}
 use Rattle.wire.specs.Parts.{part}
 use Rattle.wire.specs.Refusals.{number}
-use Rattle.wire.specs.Answers.{Answer, done, refused, andThen, Rule, under, over, other, judged}
+use Rattle.wire.specs.Answers.{Answer, done, refused, andThen, under, over, other, judged}
 use Rattle.epath_check.specs.Paths.{checkPath}
 use Rattle.connection.specs.Limits.{maxPath, maxRecord}
 use Rattle.message_read.specs.declared.MessageRequest.{MessageRequest}
 use Rattle.message_read.specs.declared.MessageRead.{MessageRead}
 use Rattle.message_read.specs.declared.MessageRead.the-variants.{Found as FoundMessage, Refused as NoMessage}
-use Rattle.message_read.specs.declared.Judged.{Judged}
-use Rattle.message_read.specs.declared.Judged.the-variants.{Kept, Refused as Broken}
 
 -- ---- what requests share
-
--- the first byte of a Connection Manager's request: tick time in the low four bits; those above have to be 0 (in the standard they are priority, of
--- which 1 is reserved, and reserved bits)
-abbrev pub mostTicks : ℕ
-mostTicks = 15
-
-abbrev pub firstRules : List ℕ → List Rule
-firstRules s = over (length s) maxRecord 3 ∷ under (length s) 1 1 ∷ over (getD s 0 0) mostTicks 5 ∷ []
 
 -- how many bytes a path has, by the size byte at a place, which counts words
 unfoldable pub pathBytes : List ℕ → ℕ → Answer ℕ
@@ -66,11 +56,3 @@ readMessage s =
 abbrev pub paperMessage : MessageRead → Answer MessageRequest
 paperMessage (FoundMessage m) = done m
 paperMessage (NoMessage e) = refused (number e)
-
--- rules alone
-abbrev pub verdict : List Rule → Answer (Unit {0})
-verdict rs = judged rs (done tt)
-
-abbrev pub paperJudged : Judged → Answer (Unit {0})
-paperJudged Kept = done tt
-paperJudged (Broken e) = refused (number e)

@@ -1,21 +1,13 @@
-// A message request is read here, and what the readers of requests share: the first byte, and the path behind a size byte. rseip-cip has no such readers: they
-// are added. A reader answers the record, and its parts as starts and lengths in the input; the path is judged here and its segments are read from
+// A message request is read here, and what the readers of requests share, the path behind a size byte. rseip-cip has no such readers: they are
+// added. A reader answers the record, and its parts as starts and lengths in the input; the path is judged here and its segments are read from
 // that part.
-mod first; // first.rt: what the Connection Manager's requests share, the first byte
 mod message; // message.rt: the message request
 mod route; // route.rt: what requests share, the path behind a size byte
 
-pub use first::first_byte;
 pub use message::read_message;
 pub use route::padded_route_at;
 pub use route::route_at;
 use wire::Refusal;
-
-// Whether rules were kept, or the number of the first that was not.
-pub enum Judged {
-    Kept,
-    Refused(Refusal),
-}
 
 pub struct MessageRequest {
     pub service_code: u8,

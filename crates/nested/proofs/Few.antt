@@ -14,7 +14,7 @@ use Rattle.connection.specs.declared.UnconnectedSend.{UnconnectedSend}
 use Rattle.message_read.specs.declared.MessageRequest.{MessageRequest}
 use Rattle.message_read.proofs.ReadLaws.{size-was, path-was}
 use Rattle.message_read.specs.Reads.{pathBytes, pathAt, paddedRouteAt, messageAt, readMessage}
-use Rattle.request.specs.Reads.{Sent, sent, messageEnd, sendBehind, readSend}
+use Rattle.send_read.specs.Reads.{Sent, sent, messageEnd, sendBehind, readSend}
 use Rattle.body_read.specs.Reads.{offsetAt, readBody}
 use Rattle.body_read.proofs.Accepts.{Accepted, accepted}
 use Rattle.body_items.specs.Items.{itemsFrom, itemsOf}

@@ -24,9 +24,9 @@ use Rattle.message_read.specs.declared.MessageRead.{MessageRead}
 use Rattle.message_read.specs.declared.MessageRead.the-variants.{Found as FoundMessage, Refused as NoMessage}
 use Rattle.message_read.specs.Reads.{readMessage, paperMessage}
 use Rattle.message_read.proofs.ReadLaws.{message-limit}
-use Rattle.request.specs.declared.SendRead.{SendRead}
-use Rattle.request.specs.declared.SendRead.the-variants.{Found as FoundSend, Refused as NoSend}
-use Rattle.request.specs.Reads.{sent, readSend, paperSend}
+use Rattle.send_read.specs.declared.SendRead.{SendRead}
+use Rattle.send_read.specs.declared.SendRead.the-variants.{Found as FoundSend, Refused as NoSend}
+use Rattle.send_read.specs.Reads.{sent, readSend, paperSend}
 use Rattle.body_read.specs.Reads.{readBody}
 use Rattle.body_read.proofs.Accepts.{accepted}
 use Rattle.body_items.specs.declared.Item.{Item}

@@ -16,7 +16,7 @@ use Rattle.wire.specs.declared.Counted.{Counted}
 use Rattle.epath_sizes.specs.Segments.{class, instance, encode}
 use Rattle.message_read.specs.declared.MessageRequest.{MessageRequest}
 use Rattle.message_read.specs.Reads.{readMessage}
-use Rattle.request.specs.Reads.{Sent, sent, readSend}
+use Rattle.send_read.specs.Reads.{Sent, sent, readSend}
 use Rattle.body_read.specs.Reads.{readBody}
 use Rattle.body_items.specs.Items.{itemsOf}
 use Rattle.nested.specs.declared.kinds.Kind.{Kind}

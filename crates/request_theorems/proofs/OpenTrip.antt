@@ -20,8 +20,9 @@ use Rattle.connection.specs.declared.OpenOptions.{OpenOptions}
 use Rattle.connection.specs.declared.Direction.{Direction}
 use Rattle.connection.specs.declared.TriggerType.{TriggerType}
 use Rattle.connection.specs.declared.TransportClass.{TransportClass}
-use Rattle.message_read.specs.Reads.{mostTicks, routeAt}
-use Rattle.forward_read.specs.Reads.{Opened, opened, secondPlace, transportPlace, parametersAt, transportAt, optionsAt, openEnd, openBehind, readOpen}
+use Rattle.request_first.specs.Firsts.{mostTicks}
+use Rattle.message_read.specs.Reads.{routeAt}
+use Rattle.open_read.specs.Reads.{Opened, opened, secondPlace, transportPlace, parametersAt, transportAt, optionsAt, openEnd, openBehind, readOpen}
 use Rattle.connection_words.proofs.Words.{word-holds, parameters-read-of-written, WordWas, parameters-written-of-read, trigger-holds, transport-read-of-written, transport-written-of-read}
 use Rattle.message_read.proofs.ReadLaws.{PathWas}
 use Rattle.request_theorems.proofs.Routes.{Route, words-small, route-back, RouteWas, route-was, words-was, route-again}

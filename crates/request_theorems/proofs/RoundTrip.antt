@@ -17,9 +17,10 @@ use Rattle.connection_words.specs.Requests.{words, messageFields, messageBytes,
 use Rattle.connection.specs.declared.ForwardCloseRequest.{ForwardCloseRequest}
 use Rattle.connection.specs.declared.UnconnectedSend.{UnconnectedSend}
 use Rattle.message_read.specs.declared.MessageRequest.{MessageRequest}
-use Rattle.message_read.specs.Reads.{mostTicks, firstRules, paddedRouteAt, messageAt, readMessage}
-use Rattle.forward_read.specs.Reads.{closed, closeAt, readClose}
-use Rattle.request.specs.Reads.{sent, sendAt, messageEnd, sendBehind, readSend}
+use Rattle.request_first.specs.Firsts.{mostTicks, firstRules}
+use Rattle.message_read.specs.Reads.{paddedRouteAt, messageAt, readMessage}
+use Rattle.close_read.specs.Reads.{closed, closeAt, readClose}
+use Rattle.send_read.specs.Reads.{sent, sendAt, messageEnd, sendBehind, readSend}
 use Rattle.message_read.proofs.ReadLaws.{SizeWas, size-was, PathWas, path-was}
 use Rattle.request_theorems.proofs.Routes.{Route, words-small, size-back, path-back, padded-back, PaddedWas, padded-was, words-was, route-again}
 

@@ -23,8 +23,9 @@ use Rattle.connection.specs.declared.ForwardCloseRequest.{ForwardCloseRequest}
 use Rattle.connection.specs.declared.UnconnectedSend.{UnconnectedSend}
 use Rattle.message_read.specs.declared.MessageRequest.{MessageRequest}
 use Rattle.message_read.specs.Reads.{readMessage}
-use Rattle.forward_read.specs.Reads.{transportPlace, opened, readOpen, closed, readClose}
-use Rattle.request.specs.Reads.{messageEnd, sent, readSend}
+use Rattle.open_read.specs.Reads.{transportPlace, opened, readOpen}
+use Rattle.close_read.specs.Reads.{closed, readClose}
+use Rattle.send_read.specs.Reads.{messageEnd, sent, readSend}
 use Rattle.request_theorems.proofs.Routes.{Route}
 use Rattle.request_theorems.proofs.RoundTrip.{MessageBack, message-read-of-written, message-written-of-read, CloseFits, CloseBack, close-read-of-written, close-written-of-read, SendFits, SendBack, send-read-of-written, send-written-of-read}
 use Rattle.request_theorems.proofs.OpenTrip.{OpenFits, OpenBack, open-read-of-written, open-written-of-read}

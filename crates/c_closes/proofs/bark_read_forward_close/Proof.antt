@@ -1,11 +1,11 @@
 -- `c_closes::bark_read_forward_close` meets its contract. Assumes nothing.
---: use Rattle.forward_read.specs.Reads.{paperClose}
+--: use Rattle.close_read.specs.Reads.{paperClose}
 --: use Rattle.c_answers.proofs.Laws.{run-refused, run-kept, run-answer, run-stored}
 --: use Rattle.c_closes.specs.Closes.{closedNumbers}
 --: use Rattle.c_closes.proofs.Laws.{close-laws}
 --: returns = search (run-refused paperClose closedNumbers, run-kept paperClose closedNumbers, close-laws, needs) fits 5000
 --: * = search (run-answer paperClose closedNumbers, run-stored paperClose closedNumbers, close-laws, needs) fits 5000
-use Rattle.forward_read.specs.Reads.{paperClose}
+use Rattle.close_read.specs.Reads.{paperClose}
 use Rattle.c_answers.proofs.Laws.{run-refused, run-kept, run-answer, run-stored}
 use Rattle.c_closes.specs.Closes.{closedNumbers}
 use Rattle.c_closes.proofs.Laws.{close-laws}

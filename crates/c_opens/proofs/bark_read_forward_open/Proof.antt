@@ -1,11 +1,11 @@
 -- `c_opens::bark_read_forward_open` meets its contract. Assumes nothing.
---: use Rattle.forward_read.specs.Reads.{paperOpen}
+--: use Rattle.open_read.specs.Reads.{paperOpen}
 --: use Rattle.c_answers.proofs.Laws.{run-refused, run-kept, run-answer, run-stored}
 --: use Rattle.c_opens.specs.Opens.{openedNumbers}
 --: use Rattle.c_opens.proofs.Laws.{open-laws}
 --: returns = search (run-refused paperOpen (openedNumbers ({start} .args .large)), run-kept paperOpen (openedNumbers ({start} .args .large)), open-laws, needs) fits 5000
 --: * = search (run-answer paperOpen (openedNumbers ({start} .args .large)), run-stored paperOpen (openedNumbers ({start} .args .large)), open-laws, needs) fits 5000
-use Rattle.forward_read.specs.Reads.{paperOpen}
+use Rattle.open_read.specs.Reads.{paperOpen}
 use Rattle.c_answers.proofs.Laws.{run-refused, run-kept, run-answer, run-stored}
 use Rattle.c_opens.specs.Opens.{openedNumbers}
 use Rattle.c_opens.proofs.Laws.{open-laws}

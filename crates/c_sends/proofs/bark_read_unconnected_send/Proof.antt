@@ -1,9 +1,9 @@
 -- `c_sends::bark_read_unconnected_send` meets its contract. Assumes nothing.
---: use Rattle.request.specs.Reads.{paperSend}
+--: use Rattle.send_read.specs.Reads.{paperSend}
 --: use Rattle.c_answers.proofs.Laws.{told-answer, told-left}
 --: use Rattle.c_sends.specs.Fields.{sendNumbers}
 --: * = search (told-answer paperSend sendNumbers, told-left paperSend sendNumbers, needs) fits 5000
-use Rattle.request.specs.Reads.{paperSend}
+use Rattle.send_read.specs.Reads.{paperSend}
 use Rattle.c_answers.proofs.Laws.{told-answer, told-left}
 use Rattle.c_sends.specs.Fields.{sendNumbers}
 use borrow.Author.Needs.{needs}

@@ -31,7 +31,7 @@ use Rattle.message_read.proofs.read_message.Reads as read-message-reads
 use Rattle.nested.proofs.kinds.opens.Reads as opens-reads
 use Rattle.nested.proofs.rows.put_row.Reads as put-row-reads
 use Rattle.nested.proofs.walk.item_of.Reads as item-of-reads
-use Rattle.request.proofs.read_unconnected_send.Reads as read-unconnected-send-reads
+use Rattle.send_read.proofs.read_unconnected_send.Reads as read-unconnected-send-reads
 use Rattle.wire_read.proofs.part_of.Reads as part-of-reads
 
 abbrev μ-walk-body : Measures 2 walk-body-kinds.ps ℕ
