@@ -15,7 +15,8 @@ use Rattle.wire_write.proofs.put_u16
 use Rattle.wire_write.proofs.put_u32
 use Rattle.wire_write.proofs.put_bytes
 use Rattle.wire_write.proofs.Exact as WireWrite
-use Rattle.lines.proofs.hex_digit
+use Rattle.hex.proofs.hex_digit
+use Rattle.hex.proofs.Exact as Hex
 use Rattle.lines.proofs.blank_line
 use Rattle.lines.proofs.take_char
 use Rattle.lines.proofs.line_case
@@ -187,8 +188,9 @@ pub record Claims : Type 2 where
   pub put-u16 : Exact put_u16.ended (λ _. put_u16.clauses)
   pub put-u32 : Exact put_u32.ended (λ _. put_u32.clauses)
   pub put-bytes : Exact put_bytes.ended (λ _. put_bytes.clauses)
-  -- lines
+  -- hex
   pub hex-digit : Exact hex_digit.ended (λ _. hex_digit.clauses)
+  -- lines
   pub blank-line : Exact blank_line.ended (λ _. blank_line.clauses)
   pub take-char : Exact take_char.ended (λ _. take_char.clauses)
   pub line-case : Exact line_case.ended (λ _. line_case.clauses)
@@ -358,7 +360,7 @@ claims =
       put-u16 = WireWrite.put-u16-exact;
       put-u32 = WireWrite.put-u32-exact;
       put-bytes = WireWrite.put-bytes-exact;
-      hex-digit = Lines.hex-digit-exact;
+      hex-digit = Hex.hex-digit-exact;
       blank-line = Lines.blank-line-exact;
       take-char = Lines.take-char-exact;
       line-case = Lines.line-case-exact;

@@ -9,7 +9,7 @@ use Rattle.epath_segment.specs.Reads.{formOf, formIn, readNarrow, readSeg}
 use Rattle.message_read.specs.Reads.{pathBytes, pathAt, readMessage}
 use Rattle.body_read.specs.Reads.{readBody}
 use Rattle.body_items.specs.Items.{itemsOf}
-use Rattle.lines.specs.Lines.{hexDigit}
+use Rattle.hex.specs.Hex.{hexDigit}
 use Rattle.nested.specs.Nested.{sameBytes, kindOf, held, inOrder, messageBy, listed, nested}
 use Rattle.dump_text.specs.Text.{decimalBy, dumpText}
 

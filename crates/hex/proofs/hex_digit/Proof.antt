@@ -1,10 +1,10 @@
--- `lines::hex_digit` meets its contract. Assumes nothing.
---: use Rattle.lines.proofs.LineLaws.{digit-laws}
+-- `hex::hex_digit` meets its contract. Assumes nothing.
+--: use Rattle.hex.proofs.HexLaws.{digit-laws}
 --: * = search (digit-laws, needs) fits 5000
-use Rattle.lines.proofs.LineLaws.{digit-laws}
+use Rattle.hex.proofs.HexLaws.{digit-laws}
 use borrow.Author.Needs.{needs}
-use Rattle.lines.proofs.hex_digit.Statement.{statement}
-use Rattle.lines.proofs.hex_digit.Tie as tie
+use Rattle.hex.proofs.hex_digit.Statement.{statement}
+use Rattle.hex.proofs.hex_digit.Tie as tie
 
 add-result : tie.Need-add-result
 add-result c = search needs
