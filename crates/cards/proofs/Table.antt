@@ -14,10 +14,10 @@ use Rattle.epath_sizes.specs.Sizes.{segmentSize}
 use Rattle.epath_segment.specs.Reads.{formOf, formIn, readWide, readSeg}
 use Rattle.epath.specs.Paths.{walk, checkPath}
 use Rattle.reply_header.specs.Headers.{readHeader}
-use Rattle.body_encode.specs.Bodies.{bodyOf}
+use Rattle.body_sizes.specs.Bodies.{bodyOf}
 use Rattle.body_read.specs.Reads.{readBody}
 use Rattle.body_items.specs.Items.{itemsOf}
-use Rattle.body.specs.Joins.{joinOf, joinSize}
+use Rattle.body_join.specs.Joins.{joinOf, joinSize}
 use Rattle.nested.specs.Nested.{sameBytes}
 use Rattle.nested.proofs.KindLaws.{same-true}
 use Rattle.cards.specs.Cards.{Card, promised, cards, sameAnswer, right}

@@ -15,7 +15,7 @@ use Rattle.epath.specs.Paths.{checkPath}
 use Rattle.reply_header.specs.Headers.{readHeader}
 use Rattle.reply_header.specs.declared.ExtendedStatus.{ExtendedStatus}
 use Rattle.reply_header.specs.declared.ExtendedStatus.the-variants.{Absent, Word}
-use Rattle.body.specs.Joins.{joinOf, joinSize}
+use Rattle.body_join.specs.Joins.{joinOf, joinSize}
 use Rattle.nested.specs.Nested.{sameBytes}
 
 -- ---- what a card asks

@@ -92,7 +92,8 @@ use Rattle.reply.proofs.read_forward_close_reply
 use Rattle.reply.proofs.Exact as Reply
 use Rattle.envelope.proofs.read_envelope
 use Rattle.envelope.proofs.Exact as Envelope
-use Rattle.body_encode.proofs.body_size
+use Rattle.body_sizes.proofs.body_size
+use Rattle.body_sizes.proofs.Exact as BodySizes
 use Rattle.body_encode.proofs.write_body
 use Rattle.body_encode.proofs.Exact as BodyEncode
 use Rattle.body_read.proofs.read_body
@@ -103,8 +104,8 @@ use Rattle.body_items.proofs.Exact as BodyItems
 use Rattle.body_replies.proofs.walk_reply
 use Rattle.body_replies.proofs.reply_item
 use Rattle.body_replies.proofs.Exact as BodyReplies
-use Rattle.body.proofs.join_bodies
-use Rattle.body.proofs.Exact as Body
+use Rattle.body_join.proofs.join_bodies
+use Rattle.body_join.proofs.Exact as BodyJoin
 use Rattle.nested.proofs.read_nested
 use Rattle.nested.proofs.Exact as Nested
 use Rattle.dump_text.proofs.write_dump
@@ -265,8 +266,9 @@ pub record Claims : Type 2 where
   pub read-forward-close-reply : Exact read_forward_close_reply.ended (λ _. read_forward_close_reply.clauses)
   -- envelope
   pub read-envelope : Exact read_envelope.ended (λ _. read_envelope.clauses)
-  -- body_encode
+  -- body_sizes
   pub body-size : Exact body_size.ended (λ _. body_size.clauses)
+  -- body_encode
   pub write-body : Exact write_body.ended (λ _. write_body.clauses)
   -- body_read
   pub read-body : Exact read_body.ended (λ _. read_body.clauses)
@@ -276,7 +278,7 @@ pub record Claims : Type 2 where
   -- body_replies
   pub walk-reply : Exact walk_reply.ended (λ _. walk_reply.clauses)
   pub reply-item : Exact reply_item.ended (λ _. reply_item.clauses)
-  -- body
+  -- body_join
   pub join-bodies : Exact join_bodies.ended (λ _. join_bodies.clauses)
   -- nested
   pub read-nested : Exact read_nested.ended (λ _. read_nested.clauses)
@@ -412,14 +414,14 @@ claims =
       read-forward-open-reply = Reply.read-forward-open-reply-exact;
       read-forward-close-reply = Reply.read-forward-close-reply-exact;
       read-envelope = Envelope.read-envelope-exact;
-      body-size = BodyEncode.body-size-exact;
+      body-size = BodySizes.body-size-exact;
       write-body = BodyEncode.write-body-exact;
       read-body = BodyRead.read-body-exact;
       walk-item = BodyItems.walk-item-exact;
       body-item = BodyItems.body-item-exact;
       walk-reply = BodyReplies.walk-reply-exact;
       reply-item = BodyReplies.reply-item-exact;
-      join-bodies = Body.join-bodies-exact;
+      join-bodies = BodyJoin.join-bodies-exact;
       read-nested = Nested.read-nested-exact;
       write-dump = DumpText.write-dump-exact;
       refusal-answer = CAnswers.refusal-answer-exact;

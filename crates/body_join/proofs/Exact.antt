@@ -2,7 +2,7 @@
 -- Assumes nothing.
 use Rattle.exact.specs.Exact.{Exact, exact, says, same}
 use Rattle.wire.proofs.Answers.{size-one}
-use Rattle.body.proofs.join_bodies
+use Rattle.body_join.proofs.join_bodies
 
 pub join-bodies-exact : Exact join_bodies.ended (λ _. join_bodies.clauses)
 join-bodies-exact = exact (λ w κs a. (tt, λ m. tt)) (λ w κs a g z e. search says) (λ t.

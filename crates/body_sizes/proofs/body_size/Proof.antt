@@ -1,10 +1,10 @@
--- `body_encode::body_size` meets its contract. Assumes nothing.
---: use Rattle.body_encode.proofs.WriteLaws.{size-laws}
+-- `body_sizes::body_size` meets its contract. Assumes nothing.
+--: use Rattle.body_sizes.proofs.SizeLaws.{size-laws}
 --: * = search (size-laws, needs) fits 5000
-use Rattle.body_encode.proofs.WriteLaws.{size-laws}
+use Rattle.body_sizes.proofs.SizeLaws.{size-laws}
 use borrow.Author.Needs.{needs}
-use Rattle.body_encode.proofs.body_size.Statement.{statement}
-use Rattle.body_encode.proofs.body_size.Tie as tie
+use Rattle.body_sizes.proofs.body_size.Statement.{statement}
+use Rattle.body_sizes.proofs.body_size.Tie as tie
 
 items-size-requires : tie.Need-items-size-requires
 items-size-requires c κs = search needs

@@ -6,12 +6,12 @@ use native.Mathlib.Nat.{add-assoc}
 use native.Mathlib.Omega.{arith}
 use lib.ListN.{length, drop, length-drop, drop-of-length-le}
 use Rattle.wire.proofs.Stores.{part-split, part-last}
-use Rattle.body_encode.specs.Bodies.{tableEnd, starts, sumOf, flat}
+use Rattle.body_sizes.specs.Bodies.{tableEnd, starts, sumOf, flat}
 use Rattle.body_read.specs.Reads.{countAt, offsetAt}
 use Rattle.body_read.proofs.Accepts.{Accepted}
 use Rattle.body_items.specs.Items.{stopAt, itemAt, bytesIn, itemsFrom, itemsOf}
 use Rattle.body_items.proofs.ItemLaws.{stop-next, stop-last, Span, span, item-length}
-use Rattle.body.specs.Joins.{offsetsFrom, raised}
+use Rattle.body_join.specs.Joins.{offsetsFrom, raised}
 
 -- ---- places
 

@@ -10,7 +10,7 @@ use Rattle.wire.specs.Answers.{done, over, withinLimit}
 use Rattle.wire.proofs.Rules.{all-keep, all-were}
 use Rattle.wire.proofs.Numbers.{low-length}
 use Rattle.connection.specs.Limits.{maxRecord}
-use Rattle.body_encode.specs.Bodies.{tableEnd, starts, twoBytes, flat, bodyOf, cut, sumOf}
+use Rattle.body_sizes.specs.Bodies.{tableEnd, starts, twoBytes, flat, bodyOf, cut, sumOf}
 
 pub length-two : (vs : List ℕ) → length (joined twoBytes vs) ≡ 2 * length vs
 length-two [] = refl

@@ -22,13 +22,13 @@ use Rattle.wire.proofs.Numbers.{low-length}
 use Rattle.wire.proofs.Stores.{sets-onto, part-last}
 use Rattle.wire.proofs.Folds.{joined-append}
 use Rattle.connection.specs.Limits.{maxRecord}
-use Rattle.body_encode.specs.Bodies.{tableEnd, starts, twoBytes, flat, bodyOf, sumOf}
-use Rattle.body_encode.proofs.BodyLaws.{length-two, length-body, length-flat}
+use Rattle.body_sizes.specs.Bodies.{tableEnd, starts, twoBytes, flat, bodyOf, sumOf}
+use Rattle.body_sizes.proofs.BodyLaws.{length-two, length-body, length-flat}
 use Rattle.body_read.specs.Reads.{countAt, readBody}
 use Rattle.body_read.proofs.Accepts.{Accepted, accepted}
 use Rattle.body_items.specs.Items.{itemsOf}
-use Rattle.body.specs.Joins.{joinOf, joinSize, offsetsFrom, raised, tableOf, Raisable, Joinable}
-use Rattle.body.proofs.ItemLists.{starts-raised, starts-append, count-items, items-starts, items-behind, length-items}
+use Rattle.body_join.specs.Joins.{joinOf, joinSize, offsetsFrom, raised, tableOf, Raisable, Joinable}
+use Rattle.body_join.proofs.ItemLists.{starts-raised, starts-append, count-items, items-starts, items-behind, length-items}
 
 -- ---- the joined length
 module _ (a b : List ℕ) (m n : ℕ) (p : Accepted a m) (q : Accepted b n) where

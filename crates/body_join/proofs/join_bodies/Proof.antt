@@ -1,12 +1,12 @@
--- `body::join_bodies` meets its contract. Assumes nothing.
+-- `body_join::join_bodies` meets its contract. Assumes nothing.
 --: use Rattle.wire.proofs.Answers.{writer-laws}
---: use Rattle.body.proofs.JoinLaws.{join-laws}
+--: use Rattle.body_join.proofs.JoinLaws.{join-laws}
 --: * = search (writer-laws, join-laws, needs) fits 5000
 use Rattle.wire.proofs.Answers.{writer-laws}
-use Rattle.body.proofs.JoinLaws.{join-laws}
+use Rattle.body_join.proofs.JoinLaws.{join-laws}
 use borrow.Author.Needs.{needs}
-use Rattle.body.proofs.join_bodies.Statement.{statement}
-use Rattle.body.proofs.join_bodies.Tie as tie
+use Rattle.body_join.proofs.join_bodies.Statement.{statement}
+use Rattle.body_join.proofs.join_bodies.Tie as tie
 
 join-size-requires : tie.Need-join-size-requires
 join-size-requires c κs = search needs

@@ -1,16 +1,16 @@
--- `body_encode::items_size` meets its contract. Assumes nothing.
---: use Rattle.body_encode.proofs.WriteLaws.{Judging, judging-laws}
+-- `body_sizes::items_size` meets its contract. Assumes nothing.
+--: use Rattle.body_sizes.proofs.SizeLaws.{Judging, judging-laws}
 --: use Prim.Native.Nat.{_-_}
 --: use lib.ListN.{length}
 --: Inv-loop = Judging lent lengths left i
 --: μ-loop = length lengths - i
 --: * = search (judging-laws, needs) fits 5000
-use Rattle.body_encode.proofs.WriteLaws.{Judging, judging-laws}
+use Rattle.body_sizes.proofs.SizeLaws.{Judging, judging-laws}
 use Prim.Native.Nat.{_-_}
 use lib.ListN.{length}
-use Rattle.body_encode.proofs.items_size.Statement.{statement}
+use Rattle.body_sizes.proofs.items_size.Statement.{statement}
 use borrow.Author.Needs.{needs}
-use Rattle.body_encode.proofs.items_size.Tie as tie
+use Rattle.body_sizes.proofs.items_size.Tie as tie
 
 abbrev Inv-loop : tie.InvT-loop
 Inv-loop lent lengths left₀ i₀ left i = Judging lent lengths left i

@@ -7,7 +7,7 @@ use mathlib.Core.List.{List, [], _∷_, _++_, map}
 use lib.ListN.{length}
 use Rattle.wire.specs.Answers.{Answer, done, andThen, withinLimit}
 use Rattle.connection.specs.Limits.{maxRecord}
-use Rattle.body_encode.specs.Bodies.{bodyOf}
+use Rattle.body_sizes.specs.Bodies.{bodyOf}
 use Rattle.body_read.specs.Reads.{countAt, offsetAt, readBody}
 use Rattle.body_items.specs.Items.{itemsOf}
 

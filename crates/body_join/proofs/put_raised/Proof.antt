@@ -1,14 +1,14 @@
--- `body::put_raised` meets its contract. Assumes nothing.
---: use Rattle.body.proofs.JoinLaws.{Raising, raising-laws}
+-- `body_join::put_raised` meets its contract. Assumes nothing.
+--: use Rattle.body_join.proofs.JoinLaws.{Raising, raising-laws}
 --: use Prim.Native.Nat.{_-_}
 --: Inv-loop = Raising s n by out₀ at out i
 --: μ-loop = n - i
 --: * = search (raising-laws, needs) fits 5000
-use Rattle.body.proofs.JoinLaws.{Raising, raising-laws}
+use Rattle.body_join.proofs.JoinLaws.{Raising, raising-laws}
 use Prim.Native.Nat.{_-_}
-use Rattle.body.proofs.put_raised.Statement.{statement}
+use Rattle.body_join.proofs.put_raised.Statement.{statement}
 use borrow.Author.Needs.{needs}
-use Rattle.body.proofs.put_raised.Tie as tie
+use Rattle.body_join.proofs.put_raised.Tie as tie
 
 abbrev Inv-loop : tie.InvT-loop
 Inv-loop s n by out₀ at i₀ out i = Raising s n by out₀ at out i

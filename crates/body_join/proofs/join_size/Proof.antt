@@ -1,10 +1,10 @@
--- `body::join_size` meets its contract. Assumes nothing.
---: use Rattle.body.proofs.JoinLaws.{size-laws}
+-- `body_join::join_size` meets its contract. Assumes nothing.
+--: use Rattle.body_join.proofs.JoinLaws.{size-laws}
 --: * = search (size-laws, needs) fits 5000
-use Rattle.body.proofs.JoinLaws.{size-laws}
+use Rattle.body_join.proofs.JoinLaws.{size-laws}
 use borrow.Author.Needs.{needs}
-use Rattle.body.proofs.join_size.Statement.{statement}
-use Rattle.body.proofs.join_size.Tie as tie
+use Rattle.body_join.proofs.join_size.Statement.{statement}
+use Rattle.body_join.proofs.join_size.Tie as tie
 
 read-body-requires : tie.Need-read-body-requires
 read-body-requires c κs = search needs
