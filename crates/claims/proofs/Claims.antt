@@ -50,10 +50,12 @@ use Rattle.triads.proofs.put_triad
 use Rattle.triads.proofs.Exact as Triads
 use Rattle.route.proofs.route_size
 use Rattle.route.proofs.Exact as Route
-use Rattle.forward_sizes.proofs.default_connection_path
-use Rattle.forward_sizes.proofs.forward_open_size
-use Rattle.forward_sizes.proofs.forward_close_size
-use Rattle.forward_sizes.proofs.Exact as ForwardSizes
+use Rattle.default_path.proofs.default_connection_path
+use Rattle.default_path.proofs.Exact as DefaultPath
+use Rattle.open_sizes.proofs.forward_open_size
+use Rattle.open_sizes.proofs.Exact as OpenSizes
+use Rattle.close_sizes.proofs.forward_close_size
+use Rattle.close_sizes.proofs.Exact as CloseSizes
 use Rattle.open_encode.proofs.write_forward_open
 use Rattle.open_encode.proofs.write_forward_open_over
 use Rattle.open_encode.proofs.Exact as OpenEncode
@@ -224,9 +226,11 @@ pub record Claims : Type 2 where
   pub put-triad : Exact put_triad.ended (λ _. put_triad.clauses)
   -- route
   pub route-size : Exact route_size.ended (λ _. route_size.clauses)
-  -- forward_sizes
+  -- default_path
   pub default-connection-path : Exact default_connection_path.ended (λ _. default_connection_path.clauses)
+  -- open_sizes
   pub forward-open-size : Exact forward_open_size.ended (λ _. forward_open_size.clauses)
+  -- close_sizes
   pub forward-close-size : Exact forward_close_size.ended (λ _. forward_close_size.clauses)
   -- open_encode
   pub write-forward-open : Exact write_forward_open.ended (λ _. write_forward_open.clauses)
@@ -385,9 +389,9 @@ claims =
       transport-of = TransportWords.transport-of-exact;
       put-triad = Triads.put-triad-exact;
       route-size = Route.route-size-exact;
-      default-connection-path = ForwardSizes.default-connection-path-exact;
-      forward-open-size = ForwardSizes.forward-open-size-exact;
-      forward-close-size = ForwardSizes.forward-close-size-exact;
+      default-connection-path = DefaultPath.default-connection-path-exact;
+      forward-open-size = OpenSizes.forward-open-size-exact;
+      forward-close-size = CloseSizes.forward-close-size-exact;
       write-forward-open = OpenEncode.write-forward-open-exact;
       write-forward-open-over = OpenEncode.write-forward-open-over-exact;
       write-forward-close = CloseEncode.write-forward-close-exact;

@@ -4,20 +4,20 @@
 mod send; // send.rt: Unconnected Send
 
 pub use close_encode::write_forward_close;
+pub use close_sizes::forward_close_size;
 use connection::UnconnectedSend;
+pub use default_path::default_connection_path;
 pub use forward_read::CloseRead;
 pub use forward_read::OpenRead;
 pub use forward_read::read_forward_close;
 pub use forward_read::read_forward_open;
-pub use forward_sizes::default_connection_path;
-pub use forward_sizes::forward_close_size;
-pub use forward_sizes::forward_open_size;
 pub use message_encode::write_message;
 pub use message_encode::write_message_over;
 pub use message_read::MessageRead;
 pub use message_read::MessageRequest;
 pub use message_read::read_message;
 pub use open_encode::write_forward_open;
+pub use open_sizes::forward_open_size;
 pub use request_sizes::message_size;
 pub use request_sizes::unconnected_send_size;
 pub use send::read_unconnected_send;
