@@ -66,8 +66,9 @@ use Rattle.request_sizes.proofs.message_size
 use Rattle.request_sizes.proofs.unconnected_send_size
 use Rattle.request_sizes.proofs.Exact as RequestSizes
 use Rattle.message_encode.proofs.write_message
-use Rattle.message_encode.proofs.write_message_over
 use Rattle.message_encode.proofs.Exact as MessageEncode
+use Rattle.message_over.proofs.write_message_over
+use Rattle.message_over.proofs.Exact as MessageOver
 use Rattle.send_encode.proofs.write_unconnected_send
 use Rattle.send_encode.proofs.write_unconnected_send_over
 use Rattle.send_encode.proofs.Exact as SendEncode
@@ -243,6 +244,7 @@ pub record Claims : Type 2 where
   pub unconnected-send-size : Exact unconnected_send_size.ended (λ _. unconnected_send_size.clauses)
   -- message_encode
   pub write-message : Exact write_message.ended (λ _. write_message.clauses)
+  -- message_over
   pub write-message-over : Exact write_message_over.ended (λ _. write_message_over.clauses)
   -- send_encode
   pub write-unconnected-send : Exact write_unconnected_send.ended (λ _. write_unconnected_send.clauses)
@@ -399,7 +401,7 @@ claims =
       message-size = RequestSizes.message-size-exact;
       unconnected-send-size = RequestSizes.unconnected-send-size-exact;
       write-message = MessageEncode.write-message-exact;
-      write-message-over = MessageEncode.write-message-over-exact;
+      write-message-over = MessageOver.write-message-over-exact;
       write-unconnected-send = SendEncode.write-unconnected-send-exact;
       write-unconnected-send-over = SendEncode.write-unconnected-send-over-exact;
       read-message = MessageRead.read-message-exact;

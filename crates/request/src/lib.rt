@@ -12,7 +12,7 @@ pub use forward_read::OpenRead;
 pub use forward_read::read_forward_close;
 pub use forward_read::read_forward_open;
 pub use message_encode::write_message;
-pub use message_encode::write_message_over;
+pub use message_over::write_message_over;
 pub use message_read::MessageRead;
 pub use message_read::MessageRequest;
 pub use message_read::read_message;

@@ -1,12 +1,12 @@
--- `message_encode::over::write_message_over` meets its contract. Assumes nothing.
+-- `message_over::write_message_over` meets its contract. Assumes nothing.
 --: use Rattle.wire.proofs.Answers.{writer-laws}
---: use Rattle.message_encode.proofs.OverLaws.{over-laws}
+--: use Rattle.message_over.proofs.OverLaws.{over-laws}
 --: * = search (writer-laws, over-laws, needs) fits 5000
 use Rattle.wire.proofs.Answers.{writer-laws}
-use Rattle.message_encode.proofs.OverLaws.{over-laws}
+use Rattle.message_over.proofs.OverLaws.{over-laws}
 use borrow.Author.Needs.{needs}
-use Rattle.message_encode.proofs.over.write_message_over.Statement.{statement}
-use Rattle.message_encode.proofs.over.write_message_over.Tie as tie
+use Rattle.message_over.proofs.write_message_over.Statement.{statement}
+use Rattle.message_over.proofs.write_message_over.Tie as tie
 
 written-record-requires : tie.Need-written-record-requires
 written-record-requires c κs = search needs

@@ -1,12 +1,12 @@
--- `message_encode::message::put_message` meets its contract. Assumes nothing.
+-- `message_encode::put_message` meets its contract. Assumes nothing.
 --: use Rattle.route.proofs.RouteLaws.{put-laws}
 --: use Rattle.message_encode.proofs.WriteLaws.{message-put}
 --: * = search (put-laws, message-put, needs) fits 5000
 use Rattle.route.proofs.RouteLaws.{put-laws}
 use Rattle.message_encode.proofs.WriteLaws.{message-put}
 use borrow.Author.Needs.{needs}
-use Rattle.message_encode.proofs.message.put_message.Statement.{statement}
-use Rattle.message_encode.proofs.message.put_message.Tie as tie
+use Rattle.message_encode.proofs.put_message.Statement.{statement}
+use Rattle.message_encode.proofs.put_message.Tie as tie
 
 sub-write-path : tie.Need-sub-write-path
 sub-write-path c = search needs

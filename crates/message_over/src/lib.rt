@@ -1,4 +1,4 @@
-// The message request over a path that is given as its bytes, already written: judged, then copied. rseip-cip has none: it is added.
+// The message request: its writer over a path that is given as its bytes, already written: judged, then copied. rseip-cip has none: it is added.
 use route_written::written_record;
 use wire::Refusal;
 use wire::Wrote;
@@ -11,7 +11,7 @@ ghost use lib.Seq.{sets};
 ghost use Rattle.wire.specs.Answers.{paperSize, withRoom, written};
 ghost use Rattle.connection.specs.Limits.{maxPath};
 ghost use Rattle.connection_words.specs.Requests.{messageBytes};
-ghost use Rattle.message_encode.specs.Over.{messageOverSize};
+ghost use Rattle.message_over.specs.Over.{messageOverSize};
 
 // A message over a path that was judged.
 fn put_message_over(service_code: u8, path: &[u8], data: &[u8], out: &mut [u8])

@@ -1,12 +1,12 @@
--- `message_encode::message::write_message` meets its contract. Assumes nothing.
+-- `message_encode::write_message` meets its contract. Assumes nothing.
 --: use Rattle.wire.proofs.Answers.{writer-laws}
 --: use Rattle.request_sizes.proofs.SizeLaws.{ready-laws, length-laws}
 --: * = search (writer-laws, ready-laws, length-laws, needs) fits 5000
 use Rattle.wire.proofs.Answers.{writer-laws}
 use Rattle.request_sizes.proofs.SizeLaws.{ready-laws, length-laws}
 use borrow.Author.Needs.{needs}
-use Rattle.message_encode.proofs.message.write_message.Statement.{statement}
-use Rattle.message_encode.proofs.message.write_message.Tie as tie
+use Rattle.message_encode.proofs.write_message.Statement.{statement}
+use Rattle.message_encode.proofs.write_message.Tie as tie
 
 message-size-requires : tie.Need-message-size-requires
 message-size-requires c κs = search needs

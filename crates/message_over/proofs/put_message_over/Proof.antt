@@ -1,10 +1,10 @@
--- `message_encode::over::put_message_over` meets its contract. Assumes nothing.
---: use Rattle.message_encode.proofs.WriteLaws.{message-around}
+-- `message_over::put_message_over` meets its contract. Assumes nothing.
+--: use Rattle.message_over.proofs.OverLaws.{message-around}
 --: * = search (message-around, needs) fits 5000
-use Rattle.message_encode.proofs.WriteLaws.{message-around}
+use Rattle.message_over.proofs.OverLaws.{message-around}
 use borrow.Author.Needs.{needs}
-use Rattle.message_encode.proofs.over.put_message_over.Statement.{statement}
-use Rattle.message_encode.proofs.over.put_message_over.Tie as tie
+use Rattle.message_over.proofs.put_message_over.Statement.{statement}
+use Rattle.message_over.proofs.put_message_over.Tie as tie
 
 put-bytes-requires : tie.Need-put-bytes-requires
 put-bytes-requires c κs = search needs
