@@ -2,9 +2,10 @@
 -- Assumes nothing: these are definitions.
 use Prim.Native.Nat.{ℕ}
 use mathlib.Core.List.{List, [], _∷_}
-use mathlib.Core.Bool.{Bool, false}
+use mathlib.Core.Bool.{Bool, true, false}
 use lib.ListN.{length}
 use lib.Dec.{eqb}
+use Rattle.wire.specs.Choice.{pick}
 use Rattle.wire.specs.Answers.{Answer, done, refused, andThen}
 use Rattle.epath_sizes.specs.Segments.{encodeSeg}
 use Rattle.epath_sizes.specs.Lists.{meaning}
@@ -16,7 +17,6 @@ use Rattle.reply_header.specs.Headers.{readHeader}
 use Rattle.reply_header.specs.declared.ExtendedStatus.{ExtendedStatus}
 use Rattle.reply_header.specs.declared.ExtendedStatus.the-variants.{Absent, Word}
 use Rattle.body_join.specs.Joins.{joinOf, joinSize}
-use Rattle.nested.specs.Nested.{sameBytes}
 
 -- ---- what a card asks
 
@@ -79,6 +79,12 @@ cards =
     ∷ []
 
 -- ---- the test, computed
+
+unfoldable pub sameBytes : List ℕ → List ℕ → Bool
+sameBytes [] [] = true
+sameBytes [] (y ∷ b) = false
+sameBytes (x ∷ a) [] = false
+sameBytes (x ∷ a) (y ∷ b) = pick (eqb x y) (sameBytes a b) false
 
 abbrev pub sameAnswer : Answer (List ℕ) → Answer (List ℕ) → Bool
 sameAnswer (done a) (done b) = sameBytes a b

@@ -7,6 +7,7 @@ use native.Mathlib.Nat.{le-of-suc-le-suc, not-suc-le-zero}
 use lib.ListN.{length, getD}
 use lib.Dec.{eqb}
 use borrow.Author.Tests.{eqb-true}
+use Rattle.wire.specs.Choice.{pick}
 use Rattle.wire.specs.Numbers.{valueOf}
 use Rattle.wire.specs.Answers.{Answer, done, refused, breaks, judged}
 use Rattle.epath_sizes.specs.Segments.{padded}
@@ -18,9 +19,7 @@ use Rattle.body_sizes.specs.Bodies.{bodyOf}
 use Rattle.body_read.specs.Reads.{readBody}
 use Rattle.body_items.specs.Items.{itemsOf}
 use Rattle.body_join.specs.Joins.{joinOf, joinSize}
-use Rattle.nested.specs.Nested.{sameBytes}
-use Rattle.nested.proofs.KindLaws.{same-true}
-use Rattle.cards.specs.Cards.{Card, promised, cards, sameAnswer, right}
+use Rattle.card_table.specs.Cards.{Card, promised, cards, sameBytes, sameAnswer, right}
 
 -- ---- a test over a table, and what it says of each entry
 
@@ -31,6 +30,17 @@ both false b = false
 abbrev every : List Card → Bool
 every [] = true
 every (c ∷ cs) = both (right c) (every cs)
+
+same-true : (a b : List ℕ) → sameBytes a b ≡ true → a ≡ b
+unfolding sameBytes
+same-true [] [] h = refl
+same-true [] (y ∷ b) h = absurd (true≢false (sym h))
+same-true (x ∷ a) [] h = absurd (true≢false (sym h))
+same-true (x ∷ a) (y ∷ b) h = go (eqb x y) refl (λ g. same-true a b g) h
+  where
+    go : (t : Bool) → eqb x y ≡ t → (sameBytes a b ≡ true → a ≡ b) → pick t (sameBytes a b) false ≡ true → (x ∷ a) ≡ (y ∷ b)
+    go true e f g = let p : x ≡ y = eqb-true x y e in let q : a ≡ b = f g in rw (p, q)
+    go false e f g = absurd (true≢false (sym g))
 
 same-answer : (x y : Answer (List ℕ)) → sameAnswer x y ≡ true → x ≡ y
 same-answer (done a) (done b) h = ap done (same-true a b h)
