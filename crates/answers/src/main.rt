@@ -26,8 +26,8 @@ const NEWLINE: u8 = 10;
 fn print(answer: &[u8], text: &mut [u8]) {
     for i in 0..answer.len() {
         let b = wire_read::byte_at(answer, i);
-        wire_write::put_byte(text, 2 * i, lines::hex_digit(b / 16));
-        wire_write::put_byte(text, 2 * i + 1, lines::hex_digit(b));
+        wire_write::put_byte(text, 2 * i, hex::hex_digit(b / 16));
+        wire_write::put_byte(text, 2 * i + 1, hex::hex_digit(b));
     }
     let n = 2 * answer.len();
     wire_write::put_byte(text, n, NEWLINE);

@@ -1,3 +1,2 @@
-pub mod BodyLaws
 pub mod WriteLaws
 pub mod Exact

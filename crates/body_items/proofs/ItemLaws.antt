@@ -16,7 +16,7 @@ use Rattle.wire.proofs.Rules.{rules, done-same, all-keep, all-were, then-stops,
 use Rattle.wire.proofs.Numbers.{below-or, value-two}
 use Rattle.wire.proofs.Stores.{part-length}
 use Rattle.connection.specs.Limits.{maxRecord}
-use Rattle.body_encode.specs.Bodies.{tableEnd}
+use Rattle.body_sizes.specs.Bodies.{tableEnd}
 use Rattle.body_read.specs.Reads.{offsetAt, readBody}
 use Rattle.body_read.proofs.Accepts.{Accepted, accepted}
 use Rattle.body_items.specs.declared.Item.{Item}

@@ -9,7 +9,7 @@ use Rattle.wire.specs.Parts.{part}
 use Rattle.wire.specs.Refusals.{number}
 use Rattle.wire.specs.Answers.{Answer, done, refused, Rule, under, over, judged, andThen}
 use Rattle.connection.specs.Limits.{maxRecord}
-use Rattle.body_encode.specs.Bodies.{tableEnd}
+use Rattle.body_sizes.specs.Bodies.{tableEnd}
 use Rattle.body_read.specs.Reads.{countAt, offsetAt, readBody}
 use Rattle.body_items.specs.declared.Item.{Item}
 use Rattle.body_items.specs.declared.ItemRead.{ItemRead}

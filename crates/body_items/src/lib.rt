@@ -6,7 +6,7 @@ use wire::Refusal;
 ghost use mathlib.Core.Path.{_≡_};
 ghost use Prim.Native.Nat.{_+_, _*_, _≤_, _<_};
 ghost use lib.ListN.{length};
-ghost use Rattle.body_encode.specs.Bodies.{tableEnd};
+ghost use Rattle.body_sizes.specs.Bodies.{tableEnd};
 ghost use Rattle.body_read.specs.Reads.{offsetAt};
 ghost use Rattle.body_items.specs.Items.{stopAt, walkItem, bodyItem, paperItem};
 

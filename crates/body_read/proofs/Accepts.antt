@@ -10,7 +10,7 @@ use lib.ListN.{length}
 use Rattle.wire.specs.Answers.{done, under, over, judged, KeepsAll}
 use Rattle.wire.proofs.Rules.{done-same, all-keep, all-were}
 use Rattle.connection.specs.Limits.{maxRecord}
-use Rattle.body_encode.specs.Bodies.{tableEnd}
+use Rattle.body_sizes.specs.Bodies.{tableEnd}
 use Rattle.body_read.specs.Reads.{countAt, offsetAt, laterRules, tableRules, readBody}
 
 pub record Accepted (s : List ℕ) (n : ℕ) : Type 0 where

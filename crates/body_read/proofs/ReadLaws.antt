@@ -9,7 +9,7 @@ use Rattle.wire.specs.Answers.{Answer, done, refused, paperCount, Rule, under, 
 use Rattle.wire.specs.declared.Counted.{Counted}
 use Rattle.wire.proofs.Rules.{rules, all-keep}
 use Rattle.connection.specs.Limits.{maxRecord}
-use Rattle.body_encode.specs.Bodies.{tableEnd}
+use Rattle.body_sizes.specs.Bodies.{tableEnd}
 use Rattle.body_read.specs.Reads.{countAt, offsetAt, laterRules, tableRules, FirstAt, readBody}
 
 -- the rules of a table of at least one offset, and of what is left of it

@@ -7,7 +7,7 @@ use lib.ListN.{length, drop}
 use Rattle.wire.specs.Numbers.{valueOf}
 use Rattle.wire.specs.Answers.{Answer, done, Rule, under, over, other, judged}
 use Rattle.connection.specs.Limits.{maxRecord}
-use Rattle.body_encode.specs.Bodies.{tableEnd}
+use Rattle.body_sizes.specs.Bodies.{tableEnd}
 
 -- the count, and offset k, where they stand
 abbrev pub countAt : List ℕ → ℕ

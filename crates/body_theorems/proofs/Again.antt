@@ -11,14 +11,14 @@ use Rattle.wire.specs.Folds.{joined}
 use Rattle.wire.specs.Answers.{done}
 use Rattle.wire.proofs.Rules.{all-keep, within-is}
 use Rattle.wire.proofs.Numbers.{low-value, bytes-drop}
-use Rattle.body_encode.specs.Bodies.{tableEnd, starts, twoBytes, flat, bodyOf, cut, sumOf, itemsSize, bodySize}
-use Rattle.body_encode.proofs.BodyLaws.{length-flat}
+use Rattle.body_sizes.specs.Bodies.{tableEnd, starts, twoBytes, flat, bodyOf, cut, sumOf, itemsSize, bodySize}
+use Rattle.body_sizes.proofs.BodyLaws.{length-flat}
 use Rattle.body_read.specs.Reads.{offsetAt, readBody}
 use Rattle.body_read.proofs.Accepts.{Accepted, accepted}
 use Rattle.body_items.specs.Items.{itemsFrom, itemsOf}
 use Rattle.body_items.proofs.ItemLaws.{Span, span, item-length}
-use Rattle.body.specs.Joins.{offsetsFrom}
-use Rattle.body.proofs.ItemLists.{count-items, items-starts, items-behind, length-items}
+use Rattle.body_join.specs.Joins.{offsetsFrom}
+use Rattle.body_join.proofs.ItemLists.{count-items, items-starts, items-behind, length-items}
 use Rattle.body_theorems.proofs.Written.{Filled}
 
 -- ---- an accepted body's items have a byte each

@@ -11,13 +11,13 @@ use Rattle.wire.specs.Answers.{Answer, done, refused, andThen, withinLimit}
 use Rattle.wire.proofs.Rules.{rules, then-done, within-is}
 use Rattle.wire.proofs.Numbers.{below-or}
 use Rattle.connection.specs.Limits.{maxRecord}
-use Rattle.body_encode.specs.Bodies.{bodyOf}
-use Rattle.body_encode.proofs.BodyLaws.{length-body}
+use Rattle.body_sizes.specs.Bodies.{bodyOf}
+use Rattle.body_sizes.proofs.BodyLaws.{length-body}
 use Rattle.body_read.specs.Reads.{readBody}
 use Rattle.body_read.proofs.Accepts.{accepted}
 use Rattle.body_items.specs.Items.{itemsOf}
-use Rattle.body.specs.Joins.{joinOf, joinSize}
-use Rattle.body.proofs.JoinLaws.{join-length}
+use Rattle.body_join.specs.Joins.{joinOf, joinSize}
+use Rattle.body_join.proofs.JoinLaws.{join-length}
 use Rattle.body_theorems.proofs.Written.{Filled, read-of-written, items-of-body}
 use Rattle.body_theorems.proofs.Again.{items-filled, written-of-read}
 

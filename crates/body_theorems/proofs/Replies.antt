@@ -14,7 +14,7 @@ use Rattle.statuses.specs.declared.Status.{Status}
 use Rattle.reply_header.specs.Headers.{readHeader}
 use Rattle.reply_header.specs.declared.MessageReply.{MessageReply}
 use Rattle.reply_theorems.proofs.Headers.{Rest, header-rest}
-use Rattle.body_encode.specs.Bodies.{bodyOf}
+use Rattle.body_sizes.specs.Bodies.{bodyOf}
 use Rattle.body_read.specs.Reads.{readBody}
 use Rattle.body_read.proofs.Accepts.{accepted}
 use Rattle.body_items.specs.declared.Item.{Item}

@@ -17,9 +17,9 @@ use Rattle.wire.proofs.Answers.{Parts, plus-parts}
 use Rattle.wire.proofs.Numbers.{value-low, low-length}
 use Rattle.wire.proofs.Stores.{past-part, part-front}
 use Rattle.connection.specs.Limits.{maxRecord}
-use Rattle.body_encode.specs.Bodies.{tableEnd, starts, twoBytes, flat, bodyOf, cut, sumOf, itemsSize, bodySize}
-use Rattle.body_encode.proofs.BodyLaws.{length-body, length-table, length-flat, cut-length, cut-lengths}
-use Rattle.body_encode.proofs.WriteLaws.{BodySized, body-sized}
+use Rattle.body_sizes.specs.Bodies.{tableEnd, starts, twoBytes, flat, bodyOf, cut, sumOf, itemsSize, bodySize}
+use Rattle.body_sizes.proofs.BodyLaws.{length-body, length-table, length-flat, cut-length, cut-lengths}
+use Rattle.body_sizes.proofs.SizeLaws.{BodySized, body-sized}
 use Rattle.body_read.specs.Reads.{countAt, offsetAt, readBody}
 use Rattle.body_read.proofs.Accepts.{Accepted, accepted, accepts}
 use Rattle.body_items.specs.declared.Item.{Item}

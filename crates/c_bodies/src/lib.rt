@@ -1,12 +1,12 @@
 // Bodies, for C: written, and two joined.
-use body::join_bodies;
 use body_encode::write_body;
+use body_join::join_bodies;
 use c_answers::size_answer;
 ghost use mathlib.Core.Path.{_≡_};
 ghost use lib.ListN.{length};
 ghost use Rattle.wire.specs.Answers.{withRoom, written};
-ghost use Rattle.body_encode.specs.Bodies.{cut, bodyOf, bodySize};
-ghost use Rattle.body.specs.Joins.{joinOf, joinSize};
+ghost use Rattle.body_sizes.specs.Bodies.{cut, bodyOf, bodySize};
+ghost use Rattle.body_join.specs.Joins.{joinOf, joinSize};
 ghost use Rattle.c_answers.specs.Codes.{code};
 
 // The body of messages that lie end to end.

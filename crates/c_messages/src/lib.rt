@@ -2,14 +2,14 @@
 use c_answers::fill;
 use c_answers::refusal_answer;
 use c_answers::size_answer;
-use message_encode::write_message_over;
+use message_over::write_message_over;
 use message_read::MessageRead;
 use message_read::read_message;
 ghost use mathlib.Core.Path.{_≡_};
 ghost use lib.ListN.{length};
 ghost use Rattle.wire.specs.Answers.{withRoom, written};
 ghost use Rattle.connection_words.specs.Requests.{messageBytes};
-ghost use Rattle.message_encode.specs.Over.{messageOverSize};
+ghost use Rattle.message_over.specs.Over.{messageOverSize};
 ghost use Rattle.c_answers.specs.Codes.{code, runAnswer, runLeft};
 ghost use Rattle.c_messages.specs.Fields.{messageRun};
 

@@ -25,7 +25,7 @@ use Rattle.connection_words.specs.declared.ParametersRead.the-variants.{Found a
 use Rattle.connection_words.specs.declared.TransportRead.{TransportRead}
 use Rattle.connection_words.specs.declared.TransportRead.the-variants.{Found as FoundTransport, Refused as NoTransport}
 use Rattle.connection_words.proofs.Words.{parameters-were, parameters-written-of-read, transport-were}
-use Rattle.forward_sizes.specs.Sizes.{openBase}
+use Rattle.open_sizes.specs.Sizes.{openBase}
 use Rattle.open_encode.specs.Over.{openAfter, openOverSize}
 use Rattle.route_written.specs.Written.{writtenRoute}
 use Rattle.route_written.proofs.WrittenLaws.{over-stops, over-goes}

@@ -7,7 +7,7 @@ use Rattle.wire.specs.Answers.{done, andThen, orZero}
 use Rattle.wire.proofs.Rules.{Went, then-were}
 use Rattle.connection_words.specs.Fields.{classTrigger}
 use Rattle.connection_words.proofs.Words.{parameters-were, transport-were, transport-written-of-read}
-use Rattle.forward_sizes.specs.Sizes.{openBase}
+use Rattle.open_sizes.specs.Sizes.{openBase}
 use Rattle.route_written.specs.Written.{writtenRoute}
 use Rattle.c_opens.specs.Opens.{wordNumber, openNumbers}
 use Rattle.c_open_writes.specs.Writes.{OpenWords, openWords, readWords, openGiven, wordParts, optionsOf}

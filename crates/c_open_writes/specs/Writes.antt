@@ -12,7 +12,7 @@ use Rattle.connection.specs.declared.TriggerType.{TriggerType}
 use Rattle.connection.specs.declared.TransportClass.{TransportClass}
 use Rattle.connection_words.specs.Codes.{directionOf, triggerOf, classOf}
 use Rattle.connection_words.specs.Fields.{unit, parametersOf, readParameters, Transport, transport, readTransport}
-use Rattle.forward_sizes.specs.Sizes.{openBase}
+use Rattle.open_sizes.specs.Sizes.{openBase}
 use Rattle.route_written.specs.Written.{writtenRoute}
 use Rattle.c_open_writes.specs.declared.Words.{Words}
 use Rattle.c_open_writes.specs.declared.Words.the-variants.{Found, Refused}

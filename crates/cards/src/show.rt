@@ -35,7 +35,7 @@ pub(crate) fn words(text: &[u8]) {
 
 // A byte in two digits, with capital letters, which io::print_hex does not give.
 fn hex(b: u8) {
-    words(&[b' ', lines::hex_digit(b / 16), lines::hex_digit(b)]);
+    words(&[b' ', hex::hex_digit(b / 16), hex::hex_digit(b)]);
 }
 
 fn all(s: &[u8]) {

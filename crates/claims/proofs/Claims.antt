@@ -15,7 +15,8 @@ use Rattle.wire_write.proofs.put_u16
 use Rattle.wire_write.proofs.put_u32
 use Rattle.wire_write.proofs.put_bytes
 use Rattle.wire_write.proofs.Exact as WireWrite
-use Rattle.lines.proofs.hex_digit
+use Rattle.hex.proofs.hex_digit
+use Rattle.hex.proofs.Exact as Hex
 use Rattle.lines.proofs.blank_line
 use Rattle.lines.proofs.take_char
 use Rattle.lines.proofs.line_case
@@ -50,10 +51,12 @@ use Rattle.triads.proofs.put_triad
 use Rattle.triads.proofs.Exact as Triads
 use Rattle.route.proofs.route_size
 use Rattle.route.proofs.Exact as Route
-use Rattle.forward_sizes.proofs.default_connection_path
-use Rattle.forward_sizes.proofs.forward_open_size
-use Rattle.forward_sizes.proofs.forward_close_size
-use Rattle.forward_sizes.proofs.Exact as ForwardSizes
+use Rattle.default_path.proofs.default_connection_path
+use Rattle.default_path.proofs.Exact as DefaultPath
+use Rattle.open_sizes.proofs.forward_open_size
+use Rattle.open_sizes.proofs.Exact as OpenSizes
+use Rattle.close_sizes.proofs.forward_close_size
+use Rattle.close_sizes.proofs.Exact as CloseSizes
 use Rattle.open_encode.proofs.write_forward_open
 use Rattle.open_encode.proofs.write_forward_open_over
 use Rattle.open_encode.proofs.Exact as OpenEncode
@@ -64,8 +67,9 @@ use Rattle.request_sizes.proofs.message_size
 use Rattle.request_sizes.proofs.unconnected_send_size
 use Rattle.request_sizes.proofs.Exact as RequestSizes
 use Rattle.message_encode.proofs.write_message
-use Rattle.message_encode.proofs.write_message_over
 use Rattle.message_encode.proofs.Exact as MessageEncode
+use Rattle.message_over.proofs.write_message_over
+use Rattle.message_over.proofs.Exact as MessageOver
 use Rattle.send_encode.proofs.write_unconnected_send
 use Rattle.send_encode.proofs.write_unconnected_send_over
 use Rattle.send_encode.proofs.Exact as SendEncode
@@ -96,7 +100,8 @@ use Rattle.reply_read.proofs.read_forward_close_reply
 use Rattle.reply_read.proofs.Exact as ReplyRead
 use Rattle.envelope.proofs.read_envelope
 use Rattle.envelope.proofs.Exact as Envelope
-use Rattle.body_encode.proofs.body_size
+use Rattle.body_sizes.proofs.body_size
+use Rattle.body_sizes.proofs.Exact as BodySizes
 use Rattle.body_encode.proofs.write_body
 use Rattle.body_encode.proofs.Exact as BodyEncode
 use Rattle.body_read.proofs.read_body
@@ -107,8 +112,8 @@ use Rattle.body_items.proofs.Exact as BodyItems
 use Rattle.body_replies.proofs.walk_reply
 use Rattle.body_replies.proofs.reply_item
 use Rattle.body_replies.proofs.Exact as BodyReplies
-use Rattle.body.proofs.join_bodies
-use Rattle.body.proofs.Exact as Body
+use Rattle.body_join.proofs.join_bodies
+use Rattle.body_join.proofs.Exact as BodyJoin
 use Rattle.nested.proofs.read_nested
 use Rattle.nested.proofs.Exact as Nested
 use Rattle.dump_text.proofs.write_dump
@@ -196,8 +201,9 @@ pub record Claims : Type 2 where
   pub put-u16 : Exact put_u16.ended (λ _. put_u16.clauses)
   pub put-u32 : Exact put_u32.ended (λ _. put_u32.clauses)
   pub put-bytes : Exact put_bytes.ended (λ _. put_bytes.clauses)
-  -- lines
+  -- hex
   pub hex-digit : Exact hex_digit.ended (λ _. hex_digit.clauses)
+  -- lines
   pub blank-line : Exact blank_line.ended (λ _. blank_line.clauses)
   pub take-char : Exact take_char.ended (λ _. take_char.clauses)
   pub line-case : Exact line_case.ended (λ _. line_case.clauses)
@@ -231,9 +237,11 @@ pub record Claims : Type 2 where
   pub put-triad : Exact put_triad.ended (λ _. put_triad.clauses)
   -- route
   pub route-size : Exact route_size.ended (λ _. route_size.clauses)
-  -- forward_sizes
+  -- default_path
   pub default-connection-path : Exact default_connection_path.ended (λ _. default_connection_path.clauses)
+  -- open_sizes
   pub forward-open-size : Exact forward_open_size.ended (λ _. forward_open_size.clauses)
+  -- close_sizes
   pub forward-close-size : Exact forward_close_size.ended (λ _. forward_close_size.clauses)
   -- open_encode
   pub write-forward-open : Exact write_forward_open.ended (λ _. write_forward_open.clauses)
@@ -246,6 +254,7 @@ pub record Claims : Type 2 where
   pub unconnected-send-size : Exact unconnected_send_size.ended (λ _. unconnected_send_size.clauses)
   -- message_encode
   pub write-message : Exact write_message.ended (λ _. write_message.clauses)
+  -- message_over
   pub write-message-over : Exact write_message_over.ended (λ _. write_message_over.clauses)
   -- send_encode
   pub write-unconnected-send : Exact write_unconnected_send.ended (λ _. write_unconnected_send.clauses)
@@ -277,8 +286,9 @@ pub record Claims : Type 2 where
   pub read-forward-close-reply : Exact read_forward_close_reply.ended (λ _. read_forward_close_reply.clauses)
   -- envelope
   pub read-envelope : Exact read_envelope.ended (λ _. read_envelope.clauses)
-  -- body_encode
+  -- body_sizes
   pub body-size : Exact body_size.ended (λ _. body_size.clauses)
+  -- body_encode
   pub write-body : Exact write_body.ended (λ _. write_body.clauses)
   -- body_read
   pub read-body : Exact read_body.ended (λ _. read_body.clauses)
@@ -288,7 +298,7 @@ pub record Claims : Type 2 where
   -- body_replies
   pub walk-reply : Exact walk_reply.ended (λ _. walk_reply.clauses)
   pub reply-item : Exact reply_item.ended (λ _. reply_item.clauses)
-  -- body
+  -- body_join
   pub join-bodies : Exact join_bodies.ended (λ _. join_bodies.clauses)
   -- nested
   pub read-nested : Exact read_nested.ended (λ _. read_nested.clauses)
@@ -376,7 +386,7 @@ claims =
       put-u16 = WireWrite.put-u16-exact;
       put-u32 = WireWrite.put-u32-exact;
       put-bytes = WireWrite.put-bytes-exact;
-      hex-digit = Lines.hex-digit-exact;
+      hex-digit = Hex.hex-digit-exact;
       blank-line = Lines.blank-line-exact;
       take-char = Lines.take-char-exact;
       line-case = Lines.line-case-exact;
@@ -399,9 +409,9 @@ claims =
       transport-of = TransportWords.transport-of-exact;
       put-triad = Triads.put-triad-exact;
       route-size = Route.route-size-exact;
-      default-connection-path = ForwardSizes.default-connection-path-exact;
-      forward-open-size = ForwardSizes.forward-open-size-exact;
-      forward-close-size = ForwardSizes.forward-close-size-exact;
+      default-connection-path = DefaultPath.default-connection-path-exact;
+      forward-open-size = OpenSizes.forward-open-size-exact;
+      forward-close-size = CloseSizes.forward-close-size-exact;
       write-forward-open = OpenEncode.write-forward-open-exact;
       write-forward-open-over = OpenEncode.write-forward-open-over-exact;
       write-forward-close = CloseEncode.write-forward-close-exact;
@@ -409,7 +419,7 @@ claims =
       message-size = RequestSizes.message-size-exact;
       unconnected-send-size = RequestSizes.unconnected-send-size-exact;
       write-message = MessageEncode.write-message-exact;
-      write-message-over = MessageEncode.write-message-over-exact;
+      write-message-over = MessageOver.write-message-over-exact;
       write-unconnected-send = SendEncode.write-unconnected-send-exact;
       write-unconnected-send-over = SendEncode.write-unconnected-send-over-exact;
       first-byte = RequestFirst.first-byte-exact;
@@ -428,14 +438,14 @@ claims =
       read-forward-open-reply = ReplyRead.read-forward-open-reply-exact;
       read-forward-close-reply = ReplyRead.read-forward-close-reply-exact;
       read-envelope = Envelope.read-envelope-exact;
-      body-size = BodyEncode.body-size-exact;
+      body-size = BodySizes.body-size-exact;
       write-body = BodyEncode.write-body-exact;
       read-body = BodyRead.read-body-exact;
       walk-item = BodyItems.walk-item-exact;
       body-item = BodyItems.body-item-exact;
       walk-reply = BodyReplies.walk-reply-exact;
       reply-item = BodyReplies.reply-item-exact;
-      join-bodies = Body.join-bodies-exact;
+      join-bodies = BodyJoin.join-bodies-exact;
       read-nested = Nested.read-nested-exact;
       write-dump = DumpText.write-dump-exact;
       refusal-answer = CAnswers.refusal-answer-exact;

@@ -2,7 +2,7 @@
 use Prim.Native.Nat.{ℕ, _+_}
 use mathlib.Core.List.{List}
 use Rattle.wire.specs.Answers.{Answer, done, andThen}
-use Rattle.forward_sizes.specs.Sizes.{closeBase}
+use Rattle.close_sizes.specs.Sizes.{closeBase}
 use Rattle.route_written.specs.Written.{writtenRoute}
 
 -- the path's own refusal, else 12 and the path

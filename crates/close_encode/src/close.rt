@@ -1,8 +1,8 @@
 // Forward Close. Beside it in rseip-cip: `ForwardCloseRequest` in src/codec/encode.rs.
+use close_sizes::forward_close_size;
 use connection::ForwardCloseRequest;
 use epath_encode::write_path;
 use epath_sizes::Path;
-use forward_sizes::forward_close_size;
 use triads::put_triad;
 use wire::Refusal;
 use wire::Wrote;
@@ -15,7 +15,7 @@ ghost use Rattle.wire.specs.Records.{laid};
 ghost use Rattle.epath_sizes.specs.Segments.{encode};
 ghost use Rattle.epath_sizes.specs.Lists.{segsOf};
 ghost use Rattle.connection_words.specs.Requests.{closeFields, closeBytes};
-ghost use Rattle.forward_sizes.specs.Sizes.{closeSize};
+ghost use Rattle.close_sizes.specs.Sizes.{closeSize};
 ghost use Rattle.route.specs.Routes.{Ready};
 
 // What stands before the path.

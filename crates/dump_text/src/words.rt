@@ -39,8 +39,8 @@ pub(crate) fn put_hex(out: &mut [u8], at: usize, v: u16) -> usize
     requires { ⌜ at ≤ roomy ⌝ }
     ensures { λ r. ⌜ PutAt at (hexWord v) (now (out .entry)) r (now (out .exit)) ⌝ }
 {
-    put_byte(out, at, lines::hex_digit((v / 16 % 16) as u8));
-    put_byte(out, at + 1, lines::hex_digit((v % 16) as u8));
+    put_byte(out, at, hex::hex_digit((v / 16 % 16) as u8));
+    put_byte(out, at + 1, hex::hex_digit((v % 16) as u8));
     put_byte(out, at + 2, BLANK);
     at + 3
 }

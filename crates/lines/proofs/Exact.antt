@@ -2,13 +2,9 @@
 -- Assumes nothing.
 use mathlib.Core.Path.{refl}
 use Rattle.exact.specs.Exact.{Exact, exact, says, same}
-use Rattle.lines.proofs.hex_digit
 use Rattle.lines.proofs.blank_line
 use Rattle.lines.proofs.take_char
 use Rattle.lines.proofs.line_case
-
-pub hex-digit-exact : Exact hex_digit.ended (λ _. hex_digit.clauses)
-hex-digit-exact = exact (λ w κs a. (tt, λ m. tt)) (λ w κs a g z e. search says) (λ t. (same (t .said) (t .said′), refl))
 
 pub blank-line-exact : Exact blank_line.ended (λ _. blank_line.clauses)
 blank-line-exact = exact (λ w κs a. (tt, λ m. tt)) (λ w κs a g z e. search says) (λ t. (same (t .said) (t .said′), refl))

@@ -7,7 +7,7 @@ use lib.ListN.{set}
 use mathlib.Core.Bool.{true}
 use lib.Dec.{leb}
 use borrow.Author.Tests.{le-leb, lt-leb, leb-true, eq-eqb, ne-eqb}
-use Rattle.lines.specs.Lines.{maxDigits, noDigit, hexValue, hexDigit, byteOf, nextDigit, keptDigit, nextChar, keptChar, next, kept, caseOf, caseLine}
+use Rattle.lines.specs.Lines.{maxDigits, noDigit, hexValue, byteOf, nextDigit, keptDigit, nextChar, keptChar, next, kept, caseOf, caseLine}
 use Rattle.lines.specs.declared.Line.{Line}
 use Rattle.lines.specs.declared.Line.the-variants as Line
 use Rattle.lines.specs.declared.Case.{Case}
@@ -47,17 +47,6 @@ module _ (b : ℕ) where
       (lt-leb b 47 (omega arith), lt-leb b 57 (omega arith), lt-leb b 64 (omega arith), lt-leb b 70 (omega arith), lt-leb b 96 (omega arith), lt-leb b 102 h)
 
 pub ruleset value-laws = (below-digits, is-digit, below-capitals, is-capital, below-small, is-small, past-digits)
-
-module _ (v : ℕ) where
-  pub ten-digit : v % 16 ≤ 9 → 48 + v % 16 ≡ hexDigit v
-  unfolding hexDigit
-  ten-digit h = simp (le-leb (v % 16) 9 h)
-
-  pub letter-digit : 9 < v % 16 → 55 + v % 16 ≡ hexDigit v
-  unfolding hexDigit
-  letter-digit h = simp (lt-leb (v % 16) 9 h)
-
-pub ruleset digit-laws = (ten-digit, letter-digit)
 
 -- ---- one more digit
 module _ (n high v : ℕ) (out : List ℕ) where

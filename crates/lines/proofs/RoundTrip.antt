@@ -8,12 +8,14 @@ use lib.ListN.{length, set}
 use lib.Seq.{sets}
 use Rattle.wire.specs.Numbers.{Bytes}
 use Rattle.wire.proofs.Numbers.{below-or}
-use Rattle.lines.specs.Lines.{maxDigits, noDigit, hexValue, hexDigit, byteOf, hexText, start, next, kept, taken, takenBytes, caseOf, caseLine}
+use Rattle.hex.specs.Hex.{hexDigit, hexText}
+use Rattle.hex.proofs.HexLaws.{ten-digit, letter-digit}
+use Rattle.lines.specs.Lines.{maxDigits, noDigit, hexValue, byteOf, start, next, kept, taken, takenBytes, caseOf, caseLine}
 use Rattle.lines.specs.declared.Line.{Line}
 use Rattle.lines.specs.declared.Line.the-variants as Line
 use Rattle.lines.specs.declared.Case.{Case}
 use Rattle.lines.specs.declared.Case.the-variants as Case
-use Rattle.lines.proofs.LineLaws.{is-digit, is-capital, ten-digit, letter-digit, one-more, first-kept, second-kept, digit-next, digit-kept, blank-next, tab-next, low-kept, case-bytes}
+use Rattle.lines.proofs.LineLaws.{is-digit, is-capital, one-more, first-kept, second-kept, digit-next, digit-kept, blank-next, tab-next, low-kept, case-bytes}
 
 -- ---- a digit says its value
 

@@ -28,16 +28,8 @@ hexValue b =
     (pick (leb b 96) noDigit
     (pick (leb b 102) (b - 87) noDigit)))))
 
-unfoldable pub hexDigit : ℕ → ℕ
-hexDigit v = pick (leb (v % 16) 9) (48 + v % 16) (55 + v % 16)
-
 abbrev pub byteOf : ℕ → ℕ → ℕ
 byteOf high low = 16 * (high % 16) + low % 16
-
--- the two digits of each byte
-abbrev pub hexText : List ℕ → List ℕ
-hexText [] = []
-hexText (b ∷ bs) = hexDigit (b / 16) ∷ hexDigit b ∷ hexText bs
 
 -- ---- one more character
 

@@ -1,7 +1,7 @@
 // A line of hex digits, taken a character at a time into lent bytes, so that a line may come in pieces and hold any run of blanks.
 // Each function takes every argument.
 ghost use mathlib.Core.Path.{_≡_};
-ghost use Rattle.lines.specs.Lines.{hexValue, hexDigit, byteOf, start, next, kept, caseOf, caseLine, nextDigit, keptDigit, nextChar, keptChar};
+ghost use Rattle.lines.specs.Lines.{hexValue, byteOf, start, next, kept, caseOf, caseLine, nextDigit, keptDigit, nextChar, keptChar};
 
 // Digits of a line; its twin is in specs/Lines.antt.
 pub const MAX_DIGITS: usize = 600000;
@@ -52,17 +52,6 @@ fn digit_value(b: u8) -> u8
         return b - 87;
     }
     NO_DIGIT
-}
-
-// The hex digit of a value's low four bits, with capital letters.
-pub fn hex_digit(v: u8) -> u8
-    ensures { λ r. ⌜ r ≡ hexDigit v ⌝ }
-{
-    let low = v % 16;
-    if low <= 9 {
-        return 48 + low;
-    }
-    55 + low
 }
 
 // A line before its first character.

@@ -2,49 +2,21 @@
 use Prim.Native.Nat.{ℕ, _≤_}
 use mathlib.Core.Path.{_≡_, refl, sym, ap, _∙_}
 use mathlib.Core.List.{List, [], _∷_}
-use mathlib.Core.Bool.{Bool, true, false, true≢false}
+use mathlib.Core.Bool.{Bool, true, false}
 use native.Mathlib.Omega.{arith}
 use mir.Val.{Fits}
 use mir.Syntax.{w8}
 use lib.ListN.{length, getD}
 use lib.Dec.{eqb}
-use borrow.Author.Tests.{le-leb, eq-eqb, eqb-true}
-use Rattle.wire.specs.Choice.{pick}
-use Rattle.wire.proofs.Choice.{pick-past}
+use borrow.Author.Tests.{le-leb, eq-eqb}
+use Rattle.wire.specs.Choice.{pick, sameBytes}
+use Rattle.wire.proofs.Choice.{pick-past, same-is, same-not}
 use Rattle.wire.specs.Parts.{part}
 use Rattle.epath_sizes.specs.Limits.{classCode, instanceCode}
 use Rattle.message_read.specs.declared.MessageRequest.{MessageRequest}
 use Rattle.nested.specs.declared.kinds.Kind.{Kind}
 use Rattle.nested.specs.declared.kinds.Kind.the-variants.{Plain, Packet, Send}
-use Rattle.nested.specs.Nested.{packetService, messageRouter, sendService, connectionManager, pathTo, sameBytes, kindOf, opensAs}
-
--- ---- two lists that are the same
-
-pub same-true : (a b : List ℕ) → sameBytes a b ≡ true → a ≡ b
-unfolding sameBytes
-same-true [] [] h = refl
-same-true [] (y ∷ b) h = absurd (true≢false (sym h))
-same-true (x ∷ a) [] h = absurd (true≢false (sym h))
-same-true (x ∷ a) (y ∷ b) h = go (eqb x y) refl (λ g. same-true a b g) h
-  where
-    go : (t : Bool) → eqb x y ≡ t → (sameBytes a b ≡ true → a ≡ b) → pick t (sameBytes a b) false ≡ true → (x ∷ a) ≡ (y ∷ b)
-    go true e f g = let p : x ≡ y = eqb-true x y e in let q : a ≡ b = f g in rw (p, q)
-    go false e f g = absurd (true≢false (sym g))
-
-same-self : (l : List ℕ) → true ≡ sameBytes l l
-unfolding sameBytes
-same-self [] = refl
-same-self (x ∷ l) = simp (eq-eqb x x refl) (same-self l)
-
-pub same-is : (a b : List ℕ) → a ≡ b → true ≡ sameBytes a b
-same-is a b h = rw (← h) (same-self a)
-
-pub same-not : (a b : List ℕ) → (a ≡ b → ⊥) → false ≡ sameBytes a b
-same-not a b n = go (sameBytes a b) refl
-  where
-    go : (t : Bool) → sameBytes a b ≡ t → false ≡ t
-    go true e = absurd (n (same-true a b e))
-    go false e = refl
+use Rattle.nested.specs.Nested.{packetService, messageRouter, sendService, connectionManager, pathTo, kindOf, opensAs}
 
 -- ---- the path
 

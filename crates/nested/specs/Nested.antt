@@ -8,7 +8,7 @@ use mathlib.Core.Bool.{Bool, true, false}
 use lib.ListN.{length}
 use lib.Seq.{sets}
 use lib.Dec.{eqb}
-use Rattle.wire.specs.Choice.{pick}
+use Rattle.wire.specs.Choice.{pick, sameBytes}
 use Rattle.wire.specs.Parts.{part}
 use Rattle.wire.specs.Folds.{joined}
 use Rattle.wire.specs.Answers.{Answer, done, refused, andThen, under, judged, paperCount, written}
@@ -49,13 +49,6 @@ connectionManager = 6
 -- just this class, instance 1
 abbrev pub pathTo : ℕ → List ℕ
 pathTo c = encode (class c ∷ instance 1 ∷ [])
-
--- the same bytes
-unfoldable pub sameBytes : List ℕ → List ℕ → Bool
-sameBytes [] [] = true
-sameBytes [] (y ∷ b) = false
-sameBytes (x ∷ a) [] = false
-sameBytes (x ∷ a) (y ∷ b) = pick (eqb x y) (sameBytes a b) false
 
 unfoldable pub kindOf : ℕ → List ℕ → Kind
 kindOf service path =

@@ -5,7 +5,8 @@ use message_read::MessageRequest;
 use wire_read::byte_at;
 use wire_read::part_of;
 ghost use mathlib.Core.Path.{_≡_};
-ghost use Rattle.nested.specs.Nested.{pathTo, sameBytes, kindOf, opensAs};
+ghost use Rattle.wire.specs.Choice.{sameBytes};
+ghost use Rattle.nested.specs.Nested.{pathTo, kindOf, opensAs};
 
 // Multiple Service Packet, of the Message Router.
 const MULTIPLE_SERVICE: u8 = 0x0A;

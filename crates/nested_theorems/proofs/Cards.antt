@@ -2,6 +2,7 @@
 use Prim.Native.Nat.{ℕ}
 use mathlib.Core.Path.{_≡_, refl}
 use mathlib.Core.List.{List, [], _∷_}
+use Rattle.wire.specs.Choice.{sameBytes}
 use Rattle.wire.specs.Numbers.{valueOf}
 use Rattle.wire.specs.Answers.{done, breaks, judged}
 use Rattle.epath_check.specs.Paths.{walk, checkPath}
@@ -9,8 +10,8 @@ use Rattle.epath_segment.specs.Reads.{formOf, formIn, readNarrow, readSeg}
 use Rattle.message_read.specs.Reads.{pathBytes, pathAt, readMessage}
 use Rattle.body_read.specs.Reads.{readBody}
 use Rattle.body_items.specs.Items.{itemsOf}
-use Rattle.lines.specs.Lines.{hexDigit}
-use Rattle.nested.specs.Nested.{sameBytes, kindOf, held, inOrder, messageBy, listed, nested}
+use Rattle.hex.specs.Hex.{hexDigit}
+use Rattle.nested.specs.Nested.{kindOf, held, inOrder, messageBy, listed, nested}
 use Rattle.dump_text.specs.Text.{decimalBy, dumpText}
 
 abbrev pub example : List ℕ

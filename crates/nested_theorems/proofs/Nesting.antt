@@ -7,18 +7,18 @@ use native.Mathlib.Omega.{arith}
 use lib.ListN.{length}
 use lib.Dec.{eqb}
 use borrow.Author.Tests.{eqb-true}
-use Rattle.wire.specs.Choice.{pick}
+use Rattle.wire.specs.Choice.{pick, sameBytes}
 use Rattle.wire.specs.Parts.{part}
 use Rattle.wire.specs.Answers.{Answer, done, refused, andThen}
 use Rattle.wire.proofs.Rules.{never}
+use Rattle.wire.proofs.Choice.{same-true}
 use Rattle.message_read.specs.declared.MessageRequest.{MessageRequest}
 use Rattle.message_read.specs.Reads.{readMessage}
 use Rattle.body_read.specs.Reads.{readBody}
 use Rattle.body_items.specs.Items.{itemsOf}
 use Rattle.nested.specs.declared.kinds.Kind.{Kind}
 use Rattle.nested.specs.declared.kinds.Kind.the-variants.{Plain, Packet, Send}
-use Rattle.nested.specs.Nested.{maxDepth, levels, packetService, messageRouter, sendService, connectionManager, pathTo, sameBytes, kindOf, opensAs, held, Row, rowOf, onto, inOrder, messageBy, listed, nested, maxRows, rowSize, counted}
-use Rattle.nested.proofs.KindLaws.{same-true}
+use Rattle.nested.specs.Nested.{maxDepth, levels, packetService, messageRouter, sendService, connectionManager, pathTo, kindOf, opensAs, held, Row, rowOf, onto, inOrder, messageBy, listed, nested, maxRows, rowSize, counted}
 use Rattle.nested.proofs.Order.{onto-none, onto-onto, Apart, apart, OneLevel, one-level}
 use Rattle.nested.proofs.RowLaws.{counted-fits}
 use Rattle.nested.proofs.Few.{most-rows}

@@ -14,7 +14,7 @@ use Rattle.connection_words.specs.Requests.{messageBytes, sendBytes}
 use Rattle.connection_words.proofs.Lengths.{send-length}
 use Rattle.request_theorems.proofs.Routes.{Route}
 use Rattle.request_theorems.proofs.RoundTrip.{messageParts, MessageBack, message-read-of-written, SendFits, SendBack, send-read-of-written}
-use Rattle.body_encode.specs.Bodies.{bodyOf}
+use Rattle.body_sizes.specs.Bodies.{bodyOf}
 use Rattle.body_theorems.proofs.Written.{Filled, read-of-written, items-of-body}
 use Rattle.nested.specs.declared.kinds.Kind.the-variants.{Packet, Send}
 use Rattle.nested.specs.Nested.{maxDepth, packetService, messageRouter, sendService, connectionManager, pathTo, kindOf, held, rowOf, onto, inOrder, messageBy, listed}

@@ -21,8 +21,8 @@ use Rattle.connection_words.specs.Fields.{wordOf, parameterWord, paperWord}
 use Rattle.connection_words.specs.Requests.{words, openHead, openRest, openBytes}
 use Rattle.connection_words.specs.declared.Word.{Word}
 use Rattle.connection_words.specs.declared.Word.the-variants.{Bits, Refused as NoWord}
-use Rattle.forward_sizes.specs.Sizes.{openBase}
-use Rattle.forward_sizes.proofs.SizeLaws.{word-was, open-front}
+use Rattle.open_sizes.specs.Sizes.{openBase}
+use Rattle.open_sizes.proofs.SizeLaws.{word-was, open-front}
 use Rattle.route_written.specs.Written.{writtenRoute}
 use Rattle.route_written.proofs.WrittenLaws.{over-stops, over-goes, over-short, Over, over-was}
 use Rattle.open_encode.specs.Over.{openAfter, openOverSize}

@@ -28,8 +28,8 @@ use Rattle.connection.specs.declared.OpenOptions.{OpenOptions}
 use Rattle.connection_words.specs.declared.Word.{Word}
 use Rattle.connection_words.specs.declared.Word.the-variants.{Bits, Refused as NoWord}
 use Rattle.route.specs.Routes.{Ready, Routed}
-use Rattle.forward_sizes.specs.Sizes.{openBase}
-use Rattle.forward_sizes.proofs.SizeLaws.{word-small-size, open-front}
+use Rattle.open_sizes.specs.Sizes.{openBase}
+use Rattle.open_sizes.proofs.SizeLaws.{word-small-size, open-front}
 
 -- the last store comes first: what it leaves is known, and says what the one before it left
 pub open-ids : (priority ticks x y : ℕ) (old a0 a1 a2 : List ℕ) → a2 ≡ sets a1 6 (lowFirst 4 y) → a1 ≡ sets a0 2 (lowFirst 4 x)

@@ -4,7 +4,7 @@ use mathlib.Core.List.{List}
 use Rattle.wire.specs.Answers.{Answer, done, andThen}
 use Rattle.connection.specs.declared.OpenOptions.{OpenOptions}
 use Rattle.connection_words.specs.Fields.{parameterWord}
-use Rattle.forward_sizes.specs.Sizes.{openBase}
+use Rattle.open_sizes.specs.Sizes.{openBase}
 use Rattle.route_written.specs.Written.{writtenRoute}
 
 -- behind a path of n bytes

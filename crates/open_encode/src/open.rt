@@ -5,7 +5,7 @@ use connection_words::Word;
 use connection_words::encode_parameters;
 use epath_encode::write_path;
 use epath_sizes::Path;
-use forward_sizes::forward_open_size;
+use open_sizes::forward_open_size;
 use transport_words::transport_class_trigger;
 use triads::put_triad;
 use wire::Refusal;
@@ -24,7 +24,7 @@ ghost use Rattle.connection_words.specs.Fields.{wordOf, parameterWord};
 ghost use Rattle.epath_sizes.specs.Segments.{encode};
 ghost use Rattle.epath_sizes.specs.Lists.{segsOf};
 ghost use Rattle.connection_words.specs.Requests.{parameterWidth, directionFields, openIds, openHead, openRest, openBytes};
-ghost use Rattle.forward_sizes.specs.Sizes.{openBase, openSize};
+ghost use Rattle.open_sizes.specs.Sizes.{openBase, openSize};
 ghost use Rattle.open_encode.specs.Words.{GoodWords};
 ghost use Rattle.route.specs.Routes.{Ready};
 

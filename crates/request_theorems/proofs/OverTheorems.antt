@@ -24,7 +24,7 @@ use Rattle.route.specs.Routes.{routeSize}
 use Rattle.route.proofs.RouteLaws.{RouteSized, route-sized}
 use Rattle.route_written.specs.Written.{writtenRoute, overSize}
 use Rattle.request_sizes.specs.Sizes.{messageSize, sendSize}
-use Rattle.message_encode.specs.Over.{messageOverSize}
+use Rattle.message_over.specs.Over.{messageOverSize}
 use Rattle.send_encode.specs.Over.{sendOverSize}
 
 -- writers of the same bytes, the one sized as x and the other as y: one answer, and one content of the output

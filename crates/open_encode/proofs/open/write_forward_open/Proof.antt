@@ -1,9 +1,9 @@
 -- `open_encode::open::write_forward_open` meets its contract. Assumes nothing.
 --: use Rattle.wire.proofs.Answers.{writer-laws}
---: use Rattle.forward_sizes.proofs.SizeLaws.{ready-laws, length-laws}
+--: use Rattle.open_sizes.proofs.SizeLaws.{ready-laws, length-laws}
 --: * = search (writer-laws, ready-laws, length-laws, needs) fits 5000
 use Rattle.wire.proofs.Answers.{writer-laws}
-use Rattle.forward_sizes.proofs.SizeLaws.{ready-laws, length-laws}
+use Rattle.open_sizes.proofs.SizeLaws.{ready-laws, length-laws}
 use borrow.Author.Needs.{needs}
 use Rattle.open_encode.proofs.open.write_forward_open.Statement.{statement}
 use Rattle.open_encode.proofs.open.write_forward_open.Tie as tie
