@@ -94,7 +94,7 @@ fn step(
         finish(line, case, lent, reply, text);
         return lines::blank_line();
     }
-    lines::take_char(line, b, case)
+    line_chars::take_char(line, b, case)
 }
 
 // What came of the input, byte by byte.

@@ -27,7 +27,7 @@ fn line_end(s: &[u8], at: usize) -> usize {
 fn take(s: &[u8], out: &mut [u8]) -> Case {
     let mut line = lines::blank_line();
     for i in 0..s.len() {
-        line = lines::take_char(line, wire_read::byte_at(s, i), out);
+        line = line_chars::take_char(line, wire_read::byte_at(s, i), out);
     }
     lines::line_case(line)
 }

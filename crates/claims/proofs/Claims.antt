@@ -18,9 +18,10 @@ use Rattle.wire_write.proofs.Exact as WireWrite
 use Rattle.hex.proofs.hex_digit
 use Rattle.hex.proofs.Exact as Hex
 use Rattle.lines.proofs.blank_line
-use Rattle.lines.proofs.take_char
 use Rattle.lines.proofs.line_case
 use Rattle.lines.proofs.Exact as Lines
+use Rattle.line_chars.proofs.take_char
+use Rattle.line_chars.proofs.Exact as LineChars
 use Rattle.epath_sizes.proofs.segment_size
 use Rattle.epath_sizes.proofs.path_size
 use Rattle.epath_sizes.proofs.Exact as EpathSizes
@@ -388,7 +389,7 @@ claims =
       put-bytes = WireWrite.put-bytes-exact;
       hex-digit = Hex.hex-digit-exact;
       blank-line = Lines.blank-line-exact;
-      take-char = Lines.take-char-exact;
+      take-char = LineChars.take-char-exact;
       line-case = Lines.line-case-exact;
       blank-path = EpathLists.blank-path-exact;
       default-port = EpathLists.default-port-exact;

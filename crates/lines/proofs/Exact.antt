@@ -3,15 +3,10 @@
 use mathlib.Core.Path.{refl}
 use Rattle.exact.specs.Exact.{Exact, exact, says, same}
 use Rattle.lines.proofs.blank_line
-use Rattle.lines.proofs.take_char
 use Rattle.lines.proofs.line_case
 
 pub blank-line-exact : Exact blank_line.ended (λ _. blank_line.clauses)
 blank-line-exact = exact (λ w κs a. (tt, λ m. tt)) (λ w κs a g z e. search says) (λ t. (same (t .said) (t .said′), refl))
-
-pub take-char-exact : Exact take_char.ended (λ _. take_char.clauses)
-take-char-exact = exact (λ w κs a. (tt, λ m. tt)) (λ w κs a g z e. search says) (λ t.
-    (same (t .said .0) (t .said′ .0), λ i. (tt, (tt, (same (t .said .1) (t .said′ .1) i, tt)))))
 
 pub line-case-exact : Exact line_case.ended (λ _. line_case.clauses)
 line-case-exact = exact (λ w κs a. (tt, λ m. tt)) (λ w κs a g z e. search says) (λ t. (same (t .said) (t .said′), refl))

@@ -1,7 +1,7 @@
 -- `message_over::put_message_over` meets its contract. Assumes nothing.
---: use Rattle.message_over.proofs.OverLaws.{message-around}
+--: use Rattle.connection_words.proofs.MessageStores.{message-around}
 --: * = search (message-around, needs) fits 5000
-use Rattle.message_over.proofs.OverLaws.{message-around}
+use Rattle.connection_words.proofs.MessageStores.{message-around}
 use borrow.Author.Needs.{needs}
 use Rattle.message_over.proofs.put_message_over.Statement.{statement}
 use Rattle.message_over.proofs.put_message_over.Tie as tie

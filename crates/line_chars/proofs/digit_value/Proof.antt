@@ -1,10 +1,10 @@
--- `lines::digit_value` meets its contract. Assumes nothing.
+-- `line_chars::digit_value` meets its contract. Assumes nothing.
 --: use Rattle.lines.proofs.LineLaws.{value-laws}
 --: * = search (value-laws, needs) fits 5000
 use Rattle.lines.proofs.LineLaws.{value-laws}
 use borrow.Author.Needs.{needs}
-use Rattle.lines.proofs.digit_value.Statement.{statement}
-use Rattle.lines.proofs.digit_value.Tie as tie
+use Rattle.line_chars.proofs.digit_value.Statement.{statement}
+use Rattle.line_chars.proofs.digit_value.Tie as tie
 
 returns : tie.Need-returns
 returns c = search (value-laws, needs) fits 5000

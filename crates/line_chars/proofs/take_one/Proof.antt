@@ -1,10 +1,10 @@
--- `lines::take_one` meets its contract. Assumes nothing.
+-- `line_chars::take_one` meets its contract. Assumes nothing.
 --: use Rattle.lines.proofs.LineLaws.{char-laws}
 --: * = search (char-laws, needs) fits 5000
 use Rattle.lines.proofs.LineLaws.{char-laws}
 use borrow.Author.Needs.{needs}
-use Rattle.lines.proofs.take_one.Statement.{statement}
-use Rattle.lines.proofs.take_one.Tie as tie
+use Rattle.line_chars.proofs.take_one.Statement.{statement}
+use Rattle.line_chars.proofs.take_one.Tie as tie
 
 returns : tie.Need-returns
 returns c = search (char-laws, needs) fits 5000

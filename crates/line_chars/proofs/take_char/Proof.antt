@@ -1,10 +1,10 @@
--- `lines::take_char` meets its contract. Assumes nothing.
+-- `line_chars::take_char` meets its contract. Assumes nothing.
 --: use Rattle.lines.proofs.LineLaws.{next-laws}
 --: * = search (next-laws, needs) fits 5000
 use Rattle.lines.proofs.LineLaws.{next-laws}
 use borrow.Author.Needs.{needs}
-use Rattle.lines.proofs.take_char.Statement.{statement}
-use Rattle.lines.proofs.take_char.Tie as tie
+use Rattle.line_chars.proofs.take_char.Statement.{statement}
+use Rattle.line_chars.proofs.take_char.Tie as tie
 
 enum-known-l : tie.Need-enum-known-l
 enum-known-l c = search needs

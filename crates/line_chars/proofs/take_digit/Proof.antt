@@ -1,10 +1,10 @@
--- `lines::take_digit` meets its contract. Assumes nothing.
+-- `line_chars::take_digit` meets its contract. Assumes nothing.
 --: use Rattle.lines.proofs.LineLaws.{take-laws}
 --: * = search (take-laws, needs) fits 5000
 use Rattle.lines.proofs.LineLaws.{take-laws}
 use borrow.Author.Needs.{needs}
-use Rattle.lines.proofs.take_digit.Statement.{statement}
-use Rattle.lines.proofs.take_digit.Tie as tie
+use Rattle.line_chars.proofs.take_digit.Statement.{statement}
+use Rattle.line_chars.proofs.take_digit.Tie as tie
 
 returns : tie.Need-returns
 returns c = search (take-laws, needs) fits 5000
