@@ -23,8 +23,9 @@ use Rattle.lines.proofs.Exact as Lines
 use Rattle.line_chars.proofs.take_char
 use Rattle.line_chars.proofs.Exact as LineChars
 use Rattle.epath_sizes.proofs.segment_size
-use Rattle.epath_sizes.proofs.path_size
 use Rattle.epath_sizes.proofs.Exact as EpathSizes
+use Rattle.path_sizes.proofs.path_size
+use Rattle.path_sizes.proofs.Exact as PathSizes
 use Rattle.epath_encode.proofs.write_segment
 use Rattle.epath_encode.proofs.write_path
 use Rattle.epath_encode.proofs.Exact as EpathEncode
@@ -395,7 +396,7 @@ claims =
       default-port = EpathLists.default-port-exact;
       is-port = EpathLists.is-port-exact;
       segment-size = EpathSizes.segment-size-exact;
-      path-size = EpathSizes.path-size-exact;
+      path-size = PathSizes.path-size-exact;
       write-segment = EpathEncode.write-segment-exact;
       write-path = EpathEncode.write-path-exact;
       read-segment = EpathSegment.read-segment-exact;

@@ -18,5 +18,5 @@ pub use epath_sizes::PortSegment;
 pub use epath_sizes::Segment;
 pub use epath_sizes::Slot;
 pub use epath_sizes::SymbolSegment;
-pub use epath_sizes::path_size;
 pub use epath_sizes::segment_size;
+pub use path_sizes::path_size;

@@ -1,8 +1,8 @@
 // The writer: segments into bytes. Beside it in rseip-cip: src/codec/encode/epath.rs.
 use epath_sizes::Path;
 use epath_sizes::Segment;
-use epath_sizes::path_size;
 use epath_sizes::segment_size;
+use path_sizes::path_size;
 use wire::Refusal;
 use wire::Wrote;
 ghost use mathlib.Core.Path.{_≡_};

@@ -1,13 +1,12 @@
 // CIP paths: segments, and their sizes. Beside it in rseip-cip: src/epath.rs.
-mod sizes; // sizes.rt: how many bytes segments and lists take
+mod sizes; // sizes.rt: how many bytes a segment takes
 
-pub use sizes::path_size;
 pub use sizes::segment_size;
 ghost use mathlib.Core.Path.{_≡_};
 ghost use mathlib.Core.List.{[], _∷_};
 ghost use Rattle.epath_sizes.specs.Segments.{class, instance, encode};
 
-// ---- limits and codes, each beside its twin in specs/Limits.antt; the writer, epath_encode, and the reader, epath, use them too
+// ---- limits and codes, each beside its twin in specs/Limits.antt; the writer, epath_encode, and the readers, epath_segment and epath_check, use them too
 
 // Segments in a list.
 pub const MAX_SEGMENTS: usize = 127;

@@ -1,5 +1,4 @@
-// How many bytes segments and lists take. Beside it in rseip-cip: src/codec/encode/epath.rs.
-use crate::Path;
+// How many bytes a segment takes. Beside it in rseip-cip: src/codec/encode/epath.rs.
 use crate::PortSegment;
 use crate::Segment;
 use crate::SymbolSegment;
@@ -10,7 +9,7 @@ ghost use Prim.Native.Nat.{_+_, _<_};
 ghost use lib.ListN.{length};
 ghost use Rattle.wire.specs.Answers.{paperSize, done, judged};
 ghost use Rattle.epath_sizes.specs.Segments.{logical, portHead, pad};
-ghost use Rattle.epath_sizes.specs.Sizes.{partRules, segmentSize, pathSize};
+ghost use Rattle.epath_sizes.specs.Sizes.{partRules, segmentSize};
 
 // How many bytes a logical segment with this value takes, whatever its code.
 fn logical_size(v: u32) -> usize
@@ -108,30 +107,4 @@ pub fn segment_size(s: Segment, pool: &[u8]) -> Wrote
         Segment::Element(v) => Wrote::Size(logical_size(v)),
         Segment::Port(q) => port_size(q, pool),
     }
-}
-
-// A list's first refusal, or how many bytes it takes.
-pub fn path_size(p: Path, pool: &[u8]) -> Wrote
-    ensures { λ r. ⌜ paperSize r ≡ pathSize (now (pool .entry)) p ⌝ }
-{
-    let count = p.count;
-    if crate::MAX_SEGMENTS < count {
-        return Wrote::Refused(Refusal::Limit);
-    }
-    let mut total: usize = 0;
-    let mut i: usize = 0;
-    while i < count {
-        let slot = p.slots[i];
-        let segment = slot.segment;
-        match segment_size(segment, pool) {
-            Wrote::Size(n) => {
-                total += n;
-            }
-            Wrote::Refused(e) => {
-                return Wrote::Refused(e);
-            }
-        }
-        i += 1;
-    }
-    Wrote::Size(total)
 }

@@ -1,6 +1,6 @@
 // The path behind a size byte.
 use epath_sizes::Path;
-use epath_sizes::path_size;
+use path_sizes::path_size;
 use wire::Refusal;
 use wire::Wrote;
 ghost use mathlib.Core.Path.{_≡_};

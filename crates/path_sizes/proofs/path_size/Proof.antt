@@ -1,9 +1,9 @@
--- `epath_sizes::sizes::path_size` meets its contract. Assumes nothing.
+-- `path_sizes::path_size` meets its contract. Assumes nothing.
 --: use Prim.Native.Nat.{_-_}
 --: use mathlib.Core.Path.{_≡_}
 --: use lib.ListN.{length, length-map}
 --: use Rattle.epath_sizes.specs.Limits.{maxSegments}
 --: use Rattle.epath_sizes.proofs.PathLaws.{Summing, summing-laws}
 --: Inv-loop = Summing pool p total i
 --: μ-loop = count - i
 --: + full : (c : tie.Start Inv-loop μ-loop) → length (c .args .t1 .slots) ≡ maxSegments
@@ -12,11 +12,11 @@
 use Prim.Native.Nat.{_-_}
 use mathlib.Core.Path.{_≡_}
 use lib.ListN.{length, length-map}
 use Rattle.epath_sizes.specs.Limits.{maxSegments}
 use Rattle.epath_sizes.proofs.PathLaws.{Summing, summing-laws}
-use Rattle.epath_sizes.proofs.sizes.path_size.Statement.{statement}
+use Rattle.path_sizes.proofs.path_size.Statement.{statement}
 use borrow.Author.Needs.{needs}
-use Rattle.epath_sizes.proofs.sizes.path_size.Tie as tie
+use Rattle.path_sizes.proofs.path_size.Tie as tie
 
 abbrev Inv-loop : tie.InvT-loop
 Inv-loop pool p count total₀ i₀ total i = Summing pool p total i
