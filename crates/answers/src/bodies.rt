@@ -3,6 +3,8 @@ use crate::fields;
 use crate::reply_reads;
 use crate::said;
 use body_items::ItemRead;
+ghost use Prim.Native.Nat.{_≤_};
+ghost use lib.ListN.{length};
 
 // Lengths of the longest list that can be asked for, and of one that most cases need no more than.
 const MAX_ITEMS: usize = 32768;
@@ -32,28 +34,26 @@ fn take_lengths(src: &[u8], lengths: &mut [usize]) {
     }
 }
 
-fn put_body(items: &[u8], lengths: &[usize], out: &mut [u8], answer: &mut [u8]) -> usize {
-    let w = body::write_body(items, lengths, out);
-    said::wrote(w, out, answer)
-}
-
 // A body of count items, whose lengths stand in src, by way of a run of numbers.
 fn write_items(
     items: &[u8],
     src: &[u8],
     lengths: &mut [usize],
     count: usize,
-    out: &mut [u8],
     answer: &mut [u8],
-) -> usize {
+    end: usize,
+) -> usize
+    requires { ⌜ (5 ≤ end) × (end ≤ length (now answer)) ⌝ }
+{
     if lengths.len() < count {
         return 0;
     }
     take_lengths(src, &mut lengths[0..count]);
-    put_body(items, &lengths[0..count], out, answer)
+    let w = body::write_body(items, &lengths[0..count], &mut answer[said::OUT_AT..end]);
+    said::wrote(w, answer, end)
 }
 
-fn write(case: &[u8], lent: &mut [u8], answer: &mut [u8]) -> usize {
+fn write(case: &[u8], answer: &mut [u8]) -> usize {
     let items = fields::string(case, 1);
     let count = wire_read::u32_at(case, items.next) as usize;
     let start = fields::skip(case, items.next, 4);
@@ -61,20 +61,20 @@ fn write(case: &[u8], lent: &mut [u8], answer: &mut [u8]) -> usize {
         return 0;
     }
     let next = fields::skip(case, start, 8 * count);
-    let room = fields::room(case, next);
-    if lent.len() < room {
+    let end = fields::out_end(case, next);
+    if answer.len() < end {
         return 0;
     }
-    said::fill(lent, room);
+    said::fill(answer, end);
     let src = wire_read::part_of(case, start, 8 * count);
     let bytes = fields::bytes(case, items);
     // a short list is not charged with clearing the longest one
     if count <= FEW_ITEMS {
         let mut few = [0usize; FEW_ITEMS];
-        return write_items(bytes, src, &mut few, count, &mut lent[0..room], answer);
+        return write_items(bytes, src, &mut few, count, answer, end);
     }
     let mut lengths = [0usize; MAX_ITEMS];
-    write_items(bytes, src, &mut lengths, count, &mut lent[0..room], answer)
+    write_items(bytes, src, &mut lengths, count, answer, end)
 }
 
 fn item(s: &[u8], index: usize, answer: &mut [u8]) -> usize {
@@ -110,37 +110,30 @@ fn read(case: &[u8], answer: &mut [u8]) -> usize {
     said::counted(body::read_body(fields::bytes(case, input)), answer)
 }
 
-fn put_joined(first: &[u8], second: &[u8], out: &mut [u8], answer: &mut [u8]) -> usize {
-    let w = body::join_bodies(first, second, out);
-    said::wrote(w, out, answer)
-}
-
-fn join(case: &[u8], lent: &mut [u8], answer: &mut [u8]) -> usize {
+fn join(case: &[u8], answer: &mut [u8]) -> usize {
     let first = fields::string(case, 1);
     let second = fields::string(case, first.next);
-    let room = fields::room(case, second.next);
-    if lent.len() < room {
+    let end = fields::out_end(case, second.next);
+    if answer.len() < end {
         return 0;
     }
-    said::fill(lent, room);
-    put_joined(
-        fields::bytes(case, first),
-        fields::bytes(case, second),
-        &mut lent[0..room],
-        answer,
-    )
+    said::fill(answer, end);
+    let a = fields::bytes(case, first);
+    let b = fields::bytes(case, second);
+    let w = body::join_bodies(a, b, &mut answer[said::OUT_AT..end]);
+    said::wrote(w, answer, end)
 }
 
 // Puts the answer of a case at the front of answer, and answers how many bytes it has; 0 for what is no case.
-pub(crate) fn ask(op: u8, case: &[u8], lent: &mut [u8], answer: &mut [u8]) -> usize {
+pub(crate) fn ask(op: u8, case: &[u8], answer: &mut [u8]) -> usize {
     if op == 0x30 {
-        return write(case, lent, answer);
+        return write(case, answer);
     }
     if op == 0x31 {
         return read(case, answer);
     }
     if op == 0x34 {
-        return join(case, lent, answer);
+        return join(case, answer);
     }
     ask_item(op, case, answer)
 }

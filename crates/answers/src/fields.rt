@@ -1,9 +1,11 @@
 // The fields of a case. A field that is cut short, and each that follows it, ends at OUT.
+use crate::said;
 use epath::Path;
 use epath::PortSegment;
 use epath::Segment;
 use epath::Slot;
 use epath::SymbolSegment;
+ghost use Prim.Native.Nat.{_≤_};
 
 // Bytes of the largest output that can be asked for.
 pub const MAX_ROOM: usize = 70000;
@@ -187,10 +189,15 @@ pub(crate) fn is_flag(b: u8) -> bool {
     b <= 1
 }
 
-// The last field of a writer's case: how long the lent output is.
-pub(crate) fn room(case: &[u8], at: usize) -> usize {
+// The last field of a writer's case, how long the lent output is, as the place in the answer where that ends.
+pub(crate) fn out_end(case: &[u8], at: usize) -> usize
+    ensures { λ r. ⌜ 5 ≤ r ⌝ }
+{
     if skip(case, at, 4) == case.len() {
-        return wire_read::u32_at(case, at) as usize;
+        let room = wire_read::u32_at(case, at) as usize;
+        if room <= MAX_ROOM {
+            return said::OUT_AT + room;
+        }
     }
     OUT
 }

@@ -10,7 +10,6 @@ mod reply_writes; // reply_writes.rt: operations 23 to 25 and 27
 mod bodies; // bodies.rt: operations 30 to 34
 mod nests; // nests.rt: operation 40
 
-use fields::MAX_ROOM;
 use lines::Case;
 use lines::Line;
 
@@ -35,13 +34,13 @@ fn print(answer: &[u8], text: &mut [u8]) {
 }
 
 // Puts the answer of a case at the front of reply, and answers how many bytes it has; 0 for what is no case.
-fn ask(case: &[u8], lent: &mut [u8], reply: &mut [u8]) -> usize {
+fn ask(case: &[u8], reply: &mut [u8]) -> usize {
     let op = wire_read::byte_at(case, 0);
     if op < 0x10 {
-        return paths::ask(op, case, lent, reply);
+        return paths::ask(op, case, reply);
     }
     if op < 0x18 {
-        return requests::ask(op, case, lent, reply);
+        return requests::ask(op, case, reply);
     }
     if op < 0x20 {
         return request_reads::ask(op, case, reply);
@@ -50,10 +49,10 @@ fn ask(case: &[u8], lent: &mut [u8], reply: &mut [u8]) -> usize {
         return reply_reads::ask(op, case, reply);
     }
     if op < 0x28 {
-        return reply_writes::ask(op, case, lent, reply);
+        return reply_writes::ask(op, case, reply);
     }
     if 0x30 <= op && op < 0x35 {
-        return bodies::ask(op, case, lent, reply);
+        return bodies::ask(op, case, reply);
     }
     if op == 0x40 {
         return nests::ask(case, reply);
@@ -61,8 +60,8 @@ fn ask(case: &[u8], lent: &mut [u8], reply: &mut [u8]) -> usize {
     0
 }
 
-fn answer(case: &[u8], lent: &mut [u8], reply: &mut [u8], text: &mut [u8]) {
-    let n = ask(case, lent, reply);
+fn answer(case: &[u8], reply: &mut [u8], text: &mut [u8]) {
+    let n = ask(case, reply);
     if n == 0 {
         io::write_all(1, b"bad\n");
         return;
@@ -71,10 +70,10 @@ fn answer(case: &[u8], lent: &mut [u8], reply: &mut [u8], text: &mut [u8]) {
 }
 
 // A line that has ended.
-fn finish(line: Line, case: &[u8], lent: &mut [u8], reply: &mut [u8], text: &mut [u8]) {
+fn finish(line: Line, case: &[u8], reply: &mut [u8], text: &mut [u8]) {
     match lines::line_case(line) {
         Case::Nothing => {}
-        Case::Bytes(n) => answer(wire_read::part_of(case, 0, n), lent, reply, text),
+        Case::Bytes(n) => answer(wire_read::part_of(case, 0, n), reply, text),
         Case::Bad => {
             io::write_all(1, b"bad\n");
         }
@@ -82,50 +81,36 @@ fn finish(line: Line, case: &[u8], lent: &mut [u8], reply: &mut [u8], text: &mut
 }
 
 // A byte of the input goes to the line that it belongs to.
-fn step(
-    b: u8,
-    line: Line,
-    case: &mut [u8],
-    lent: &mut [u8],
-    reply: &mut [u8],
-    text: &mut [u8],
-) -> Line {
+fn step(b: u8, line: Line, case: &mut [u8], reply: &mut [u8], text: &mut [u8]) -> Line {
     if b == NEWLINE {
-        finish(line, case, lent, reply, text);
+        finish(line, case, reply, text);
         return lines::blank_line();
     }
     line_chars::take_char(line, b, case)
 }
 
 // What came of the input, byte by byte.
-fn feed(
-    chunk: &[u8],
-    line: Line,
-    case: &mut [u8],
-    lent: &mut [u8],
-    reply: &mut [u8],
-    text: &mut [u8],
-) -> Line {
+fn feed(chunk: &[u8], line: Line, case: &mut [u8], reply: &mut [u8], text: &mut [u8]) -> Line {
     let mut l = line;
     for i in 0..chunk.len() {
-        l = step(wire_read::byte_at(chunk, i), l, case, lent, reply, text);
+        l = step(wire_read::byte_at(chunk, i), l, case, reply, text);
     }
     l
 }
 
 // A proved loop has to end, and nothing says that the input does. So the turns are counted down from a number that no run uses up.
 // A last line without a newline is answered too.
-fn run(chunk: &mut [u8], case: &mut [u8], lent: &mut [u8], reply: &mut [u8], text: &mut [u8]) {
+fn run(chunk: &mut [u8], case: &mut [u8], reply: &mut [u8], text: &mut [u8]) {
     let mut line = lines::blank_line();
     let mut turns = u64::MAX;
     while turns > 0 {
         let got = libc::read(0, chunk);
         let n = io::count(got, chunk);
         if n == 0 {
-            finish(line, case, lent, reply, text);
+            finish(line, case, reply, text);
             return;
         }
-        line = feed(&chunk[..n], line, case, lent, reply, text);
+        line = feed(&chunk[..n], line, case, reply, text);
         turns -= 1;
     }
 }
@@ -133,8 +118,7 @@ fn run(chunk: &mut [u8], case: &mut [u8], lent: &mut [u8], reply: &mut [u8], tex
 fn main() {
     let mut chunk = io::large_buffer();
     let mut case = [0u8; MAX_CASE];
-    let mut lent = [0u8; MAX_ROOM];
     let mut reply = [0u8; MAX_REPLY];
     let mut text = [0u8; 2 * MAX_REPLY + 1];
-    run(&mut chunk, &mut case, &mut lent, &mut reply, &mut text);
+    run(&mut chunk, &mut case, &mut reply, &mut text);
 }

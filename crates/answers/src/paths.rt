@@ -29,41 +29,43 @@ fn size_path(case: &[u8], answer: &mut [u8]) -> usize {
     said::sized(epath::path_size(path, fields::bytes(case, pool)), answer)
 }
 
-fn write_one(x: Segment, pool: &[u8], out: &mut [u8], answer: &mut [u8]) -> usize {
-    let w = epath::write_segment(x, pool, out);
-    said::wrote(w, out, answer)
-}
-
-// A room past the longest that can be asked for is more than lent has.
-fn write_segment(case: &[u8], lent: &mut [u8], answer: &mut [u8]) -> usize {
+// A room past the longest that can be asked for ends behind every answer.
+fn write_segment(case: &[u8], answer: &mut [u8]) -> usize {
     let pool = fields::string(case, 1);
     let at = pool.next;
-    let room = fields::room(case, fields::after_segment(case, at));
-    if lent.len() < room {
+    let end = fields::out_end(case, fields::after_segment(case, at));
+    if answer.len() < end {
         return 0;
     }
-    said::fill(lent, room);
+    said::fill(answer, end);
     match fields::segment_at(case, at) {
-        Taken::Good(x) => write_one(x, fields::bytes(case, pool), &mut lent[0..room], answer),
+        Taken::Good(x) => {
+            let w = epath::write_segment(
+                x,
+                fields::bytes(case, pool),
+                &mut answer[said::OUT_AT..end],
+            );
+            said::wrote(w, answer, end)
+        }
         Taken::Bad => 0,
     }
 }
 
-fn write_all(p: Path, pool: &[u8], out: &mut [u8], answer: &mut [u8]) -> usize {
-    let w = epath::write_path(p, pool, out);
-    said::wrote(w, out, answer)
-}
-
-fn write_path(case: &[u8], lent: &mut [u8], answer: &mut [u8]) -> usize {
+fn write_path(case: &[u8], answer: &mut [u8]) -> usize {
     let pool = fields::string(case, 1);
     let list = fields::list(case, pool.next);
-    let room = fields::room(case, list.next);
-    if lent.len() < room {
+    let end = fields::out_end(case, list.next);
+    if answer.len() < end {
         return 0;
     }
-    said::fill(lent, room);
+    said::fill(answer, end);
     let path = fields::path(case, list);
-    write_all(path, fields::bytes(case, pool), &mut lent[0..room], answer)
+    let w = epath::write_path(
+        path,
+        fields::bytes(case, pool),
+        &mut answer[said::OUT_AT..end],
+    );
+    said::wrote(w, answer, end)
 }
 
 // A slot of the list, or one past its end.
@@ -129,7 +131,7 @@ fn read(op: u8, case: &[u8], answer: &mut [u8]) -> usize {
 }
 
 // Puts the answer of a case at the front of answer, and answers how many bytes it has; 0 for what is no case.
-pub(crate) fn ask(op: u8, case: &[u8], lent: &mut [u8], answer: &mut [u8]) -> usize {
+pub(crate) fn ask(op: u8, case: &[u8], answer: &mut [u8]) -> usize {
     if op == 1 {
         return size_segment(case, answer);
     }
@@ -137,10 +139,10 @@ pub(crate) fn ask(op: u8, case: &[u8], lent: &mut [u8], answer: &mut [u8]) -> us
         return size_path(case, answer);
     }
     if op == 3 {
-        return write_segment(case, lent, answer);
+        return write_segment(case, answer);
     }
     if op == 4 {
-        return write_path(case, lent, answer);
+        return write_path(case, answer);
     }
     read(op, case, answer)
 }

@@ -8,24 +8,13 @@ use connection::RemainingPathSize;
 use statuses::ExtendedStatus;
 use statuses::Status;
 
-fn put_open(
-    service: u8,
-    o: ForwardOpenSuccess,
-    data: &[u8],
-    out: &mut [u8],
-    answer: &mut [u8],
-) -> usize {
-    let w = reply::write_forward_open_success(service, o, data, out);
-    said::wrote(w, out, answer)
-}
-
-fn write_open(case: &[u8], lent: &mut [u8], answer: &mut [u8]) -> usize {
+fn write_open(case: &[u8], answer: &mut [u8]) -> usize {
     let data = fields::string(case, 26);
-    let room = fields::room(case, data.next);
-    if lent.len() < room {
+    let end = fields::out_end(case, data.next);
+    if answer.len() < end {
         return 0;
     }
-    said::fill(lent, room);
+    said::fill(answer, end);
     let o = ForwardOpenSuccess {
         o_t_connection_id: wire_read::u32_at(case, 2),
         t_o_connection_id: wire_read::u32_at(case, 6),
@@ -35,45 +24,34 @@ fn write_open(case: &[u8], lent: &mut [u8], answer: &mut [u8]) -> usize {
         o_t_api: wire_read::u32_at(case, 18),
         t_o_api: wire_read::u32_at(case, 22),
     };
-    put_open(
+    let w = reply::write_forward_open_success(
         wire_read::byte_at(case, 1),
         o,
         fields::bytes(case, data),
-        &mut lent[0..room],
-        answer,
-    )
+        &mut answer[said::OUT_AT..end],
+    );
+    said::wrote(w, answer, end)
 }
 
-fn put_close(
-    service: u8,
-    c: ForwardCloseSuccess,
-    data: &[u8],
-    out: &mut [u8],
-    answer: &mut [u8],
-) -> usize {
-    let w = reply::write_forward_close_success(service, c, data, out);
-    said::wrote(w, out, answer)
-}
-
-fn write_close(case: &[u8], lent: &mut [u8], answer: &mut [u8]) -> usize {
+fn write_close(case: &[u8], answer: &mut [u8]) -> usize {
     let data = fields::string(case, 10);
-    let room = fields::room(case, data.next);
-    if lent.len() < room {
+    let end = fields::out_end(case, data.next);
+    if answer.len() < end {
         return 0;
     }
-    said::fill(lent, room);
+    said::fill(answer, end);
     let c = ForwardCloseSuccess {
         connection_serial_number: wire_read::u16_at(case, 2),
         originator_vendor_id: wire_read::u16_at(case, 4),
         originator_serial_number: wire_read::u32_at(case, 6),
     };
-    put_close(
+    let w = reply::write_forward_close_success(
         wire_read::byte_at(case, 1),
         c,
         fields::bytes(case, data),
-        &mut lent[0..room],
-        answer,
-    )
+        &mut answer[said::OUT_AT..end],
+    );
+    said::wrote(w, answer, end)
 }
 
 // A word behind 0 words is not used.
@@ -98,25 +76,12 @@ fn remaining(flag: u8, words: u8) -> RemainingPathSize {
     RemainingPathSize::Words(words)
 }
 
-fn put_failure(
-    service: u8,
-    status: Status,
-    f: ForwardRequestFail,
-    out: &mut [u8],
-    answer: &mut [u8],
-) -> usize {
-    let w = reply::write_forward_failure(service, status, f, out);
-    said::wrote(w, out, answer)
-}
-
-fn write_failure(case: &[u8], lent: &mut [u8], answer: &mut [u8]) -> usize {
-    let room = fields::room(case, 16);
+fn write_failure(case: &[u8], answer: &mut [u8]) -> usize {
     let words = wire_read::byte_at(case, 3);
     let flag = wire_read::byte_at(case, 14);
-    if lent.len() < room || !fields::is_flag(words) || !fields::is_flag(flag) {
+    if !fields::is_flag(words) || !fields::is_flag(flag) {
         return 0;
     }
-    said::fill(lent, room);
     let f = ForwardRequestFail {
         connection_serial_number: wire_read::u16_at(case, 6),
         originator_vendor_id: wire_read::u16_at(case, 8),
@@ -128,13 +93,18 @@ fn write_failure(case: &[u8], lent: &mut [u8], answer: &mut [u8]) -> usize {
         words,
         wire_read::u16_at(case, 4),
     );
-    put_failure(
+    let end = fields::out_end(case, 16);
+    if answer.len() < end {
+        return 0;
+    }
+    said::fill(answer, end);
+    let w = reply::write_forward_failure(
         wire_read::byte_at(case, 1),
         s,
         f,
-        &mut lent[0..room],
-        answer,
-    )
+        &mut answer[said::OUT_AT..end],
+    );
+    said::wrote(w, answer, end)
 }
 
 fn is_routing_error(case: &[u8], answer: &mut [u8]) -> usize {
@@ -156,15 +126,15 @@ fn is_routing_error(case: &[u8], answer: &mut [u8]) -> usize {
 }
 
 // Puts the answer of a case at the front of answer, and answers how many bytes it has; 0 for what is no case.
-pub(crate) fn ask(op: u8, case: &[u8], lent: &mut [u8], answer: &mut [u8]) -> usize {
+pub(crate) fn ask(op: u8, case: &[u8], answer: &mut [u8]) -> usize {
     if op == 0x23 {
-        return write_open(case, lent, answer);
+        return write_open(case, answer);
     }
     if op == 0x24 {
-        return write_close(case, lent, answer);
+        return write_close(case, answer);
     }
     if op == 0x25 {
-        return write_failure(case, lent, answer);
+        return write_failure(case, answer);
     }
     is_routing_error(case, answer)
 }

@@ -7,96 +7,70 @@ use crate::said;
 use connection::ForwardCloseRequest;
 use connection::OpenOptions;
 use connection::UnconnectedSend;
-use epath::Path;
+ghost use Prim.Native.Nat.{_≤_};
 
-// The path of a writer's case, and its output: the last three fields, POOL, LIST and ROOM.
+// The path of a writer's case, and where its output ends: the last three fields, POOL, LIST and ROOM.
 pub struct PathField {
     pub pool: StringField,
     pub list: ListField,
-    pub room: usize,
+    pub end: usize,
 }
 
-fn path_field(case: &[u8], at: usize) -> PathField {
+fn path_field(case: &[u8], at: usize) -> PathField
+    ensures { λ r. ⌜ 5 ≤ r .end ⌝ }
+{
     let pool = fields::string(case, at);
     let list = fields::list(case, pool.next);
-    let room = fields::room(case, list.next);
-    PathField { pool, list, room }
+    let end = fields::out_end(case, list.next);
+    PathField { pool, list, end }
 }
 
-fn put_message(
-    service: u8,
-    p: Path,
-    pool: &[u8],
-    data: &[u8],
-    out: &mut [u8],
-    answer: &mut [u8],
-) -> usize {
-    let w = request::write_message(service, p, pool, data, out);
-    said::wrote(w, out, answer)
-}
-
-fn write_message(case: &[u8], lent: &mut [u8], answer: &mut [u8]) -> usize {
+fn write_message(case: &[u8], answer: &mut [u8]) -> usize {
     let pool = fields::string(case, 2);
     let list = fields::list(case, pool.next);
     let data = fields::string(case, list.next);
-    let room = fields::room(case, data.next);
-    if lent.len() < room {
+    let end = fields::out_end(case, data.next);
+    if answer.len() < end {
         return 0;
     }
-    said::fill(lent, room);
-    put_message(
+    said::fill(answer, end);
+    let w = request::write_message(
         wire_read::byte_at(case, 1),
         fields::path(case, list),
         fields::bytes(case, pool),
         fields::bytes(case, data),
-        &mut lent[0..room],
-        answer,
-    )
+        &mut answer[said::OUT_AT..end],
+    );
+    said::wrote(w, answer, end)
 }
 
-fn put_open(o: OpenOptions, p: Path, pool: &[u8], out: &mut [u8], answer: &mut [u8]) -> usize {
-    let w = request::write_forward_open(o, p, pool, out);
-    said::wrote(w, out, answer)
-}
-
-fn write_open(case: &[u8], lent: &mut [u8], answer: &mut [u8]) -> usize {
-    let f = path_field(case, 2 + connections::OPEN);
-    let room = f.room;
-    if lent.len() < room {
-        return 0;
-    }
+fn write_open(case: &[u8], answer: &mut [u8]) -> usize {
     let fixed = wire_read::part_of(case, 2, connections::OPEN);
     if !fields::is_flag(wire_read::byte_at(case, 1)) || !connections::good_open(fixed) {
         return 0;
     }
-    said::fill(lent, room);
-    put_open(
+    let f = path_field(case, 2 + connections::OPEN);
+    let end = f.end;
+    if answer.len() < end {
+        return 0;
+    }
+    said::fill(answer, end);
+    let w = request::write_forward_open(
         connections::open(wire_read::byte_at(case, 1) == 1, fixed),
         fields::path(case, f.list),
         fields::bytes(case, f.pool),
-        &mut lent[0..room],
-        answer,
-    )
+        &mut answer[said::OUT_AT..end],
+    );
+    said::wrote(w, answer, end)
 }
 
-fn put_close(
-    c: ForwardCloseRequest,
-    p: Path,
-    pool: &[u8],
-    out: &mut [u8],
-    answer: &mut [u8],
-) -> usize {
-    let w = request::write_forward_close(c, p, pool, out);
-    said::wrote(w, out, answer)
-}
-
-fn write_close(case: &[u8], lent: &mut [u8], answer: &mut [u8]) -> usize {
+fn write_close(case: &[u8], answer: &mut [u8]) -> usize {
     let f = path_field(case, 11);
-    let room = f.room;
-    if lent.len() < room {
+    let end = f.end;
+    if answer.len() < end {
         return 0;
     }
-    said::fill(lent, room);
+    said::fill(answer, end);
     let c = ForwardCloseRequest {
         priority_time_ticks: wire_read::byte_at(case, 1),
         timeout_ticks: wire_read::byte_at(case, 2),
@@ -104,47 +78,35 @@ fn write_close(case: &[u8], lent: &mut [u8], answer: &mut [u8]) -> usize {
         originator_vendor_id: wire_read::u16_at(case, 5),
         originator_serial_number: wire_read::u32_at(case, 7),
     };
-    put_close(
+    let w = request::write_forward_close(
         c,
         fields::path(case, f.list),
         fields::bytes(case, f.pool),
-        &mut lent[0..room],
-        answer,
-    )
+        &mut answer[said::OUT_AT..end],
+    );
+    said::wrote(w, answer, end)
 }
 
-fn put_send(
-    u: UnconnectedSend,
-    message: &[u8],
-    p: Path,
-    pool: &[u8],
-    out: &mut [u8],
-    answer: &mut [u8],
-) -> usize {
-    let w = request::write_unconnected_send(u, message, p, pool, out);
-    said::wrote(w, out, answer)
-}
-
-fn write_send(case: &[u8], lent: &mut [u8], answer: &mut [u8]) -> usize {
+fn write_send(case: &[u8], answer: &mut [u8]) -> usize {
     let message = fields::string(case, 3);
     let f = path_field(case, message.next);
-    let room = f.room;
-    if lent.len() < room {
+    let end = f.end;
+    if answer.len() < end {
         return 0;
     }
-    said::fill(lent, room);
+    said::fill(answer, end);
     let u = UnconnectedSend {
         priority_ticks: wire_read::byte_at(case, 1),
         timeout_ticks: wire_read::byte_at(case, 2),
     };
-    put_send(
+    let w = request::write_unconnected_send(
         u,
         fields::bytes(case, message),
         fields::path(case, f.list),
         fields::bytes(case, f.pool),
-        &mut lent[0..room],
-        answer,
-    )
+        &mut answer[said::OUT_AT..end],
+    );
+    said::wrote(w, answer, end)
 }
 
 fn default_open(large: bool, serial: u16) -> OpenOptions {
@@ -153,16 +115,17 @@ fn default_open(large: bool, serial: u16) -> OpenOptions {
     o
 }
 
-fn write_default(case: &[u8], lent: &mut [u8], answer: &mut [u8]) -> usize {
-    let room = fields::room(case, 4);
+fn write_default(case: &[u8], answer: &mut [u8]) -> usize {
+    let end = fields::out_end(case, 4);
     let large = wire_read::byte_at(case, 1);
-    if lent.len() < room || !fields::is_flag(large) {
+    if answer.len() < end || !fields::is_flag(large) {
         return 0;
     }
-    said::fill(lent, room);
+    said::fill(answer, end);
     let o = default_open(large == 1, wire_read::u16_at(case, 2));
     let p = request::default_connection_path();
-    put_open(o, p, &[], &mut lent[0..room], answer)
+    let w = request::write_forward_open(o, p, &[], &mut answer[said::OUT_AT..end]);
+    said::wrote(w, answer, end)
 }
 
 fn mask(case: &[u8], answer: &mut [u8]) -> usize {
@@ -179,21 +142,21 @@ fn mask(case: &[u8], answer: &mut [u8]) -> usize {
 }
 
 // Puts the answer of a case at the front of answer, and answers how many bytes it has; 0 for what is no case.
-pub(crate) fn ask(op: u8, case: &[u8], lent: &mut [u8], answer: &mut [u8]) -> usize {
+pub(crate) fn ask(op: u8, case: &[u8], answer: &mut [u8]) -> usize {
     if op == 0x10 {
-        return write_message(case, lent, answer);
+        return write_message(case, answer);
     }
     if op == 0x11 {
-        return write_open(case, lent, answer);
+        return write_open(case, answer);
     }
     if op == 0x12 {
-        return write_close(case, lent, answer);
+        return write_close(case, answer);
     }
     if op == 0x13 {
-        return write_send(case, lent, answer);
+        return write_send(case, answer);
     }
     if op == 0x14 {
-        return write_default(case, lent, answer);
+        return write_default(case, answer);
     }
     if op == 0x15 {
         return mask(case, answer);

@@ -5,14 +5,26 @@ use epath::SymbolSegment;
 use wire::Counted;
 use wire::Refusal;
 use wire::Wrote;
+ghost use Prim.Native.Nat.{_≤_};
 
 // What an output holds before it is lent, so that what is not written shows.
 const BLANK: u8 = 0xA5;
 
-// Makes the first room bytes of lent ready.
-pub(crate) fn fill(lent: &mut [u8], room: usize) {
-    for i in 0..room {
-        wire_write::put_byte(lent, i, BLANK);
+// Where a writer's output stands in its answer: behind the byte that accepts and the size.
+pub const OUT_AT: usize = 5;
+
+// Makes the output that ends there ready.
+pub(crate) fn fill(reply: &mut [u8], end: usize) {
+    for i in OUT_AT..end {
+        wire_write::put_byte(reply, i, BLANK);
+    }
+}
+
+// Behind a refusal, which has no size, the output follows at once.
+fn move_down(reply: &mut [u8], end: usize) {
+    for i in OUT_AT..end {
+        let b = wire_read::byte_at(reply, i);
+        wire_write::put_byte(reply, i - 4, b);
     }
 }
 
@@ -56,18 +68,19 @@ pub(crate) fn counted(c: Counted, reply: &mut [u8]) -> usize {
     }
 }
 
-// A writer's answer, with the whole output behind it.
-pub(crate) fn wrote(w: Wrote, out: &[u8], reply: &mut [u8]) -> usize {
+// A writer's answer, with the whole output, which ends there.
+pub(crate) fn wrote(w: Wrote, reply: &mut [u8], end: usize) -> usize
+    requires { ⌜ 5 ≤ end ⌝ }
+{
     match w {
         Wrote::Size(n) => {
             number(n, reply);
-            wire_write::put_bytes(reply, 5, out);
-            5 + out.len()
+            end
         }
         Wrote::Refused(e) => {
+            move_down(reply, end);
             refused(e, reply);
-            wire_write::put_bytes(reply, 1, out);
-            1 + out.len()
+            end - 4
         }
     }
 }

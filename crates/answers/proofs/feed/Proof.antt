@@ -2,7 +2,7 @@
 --: use mathlib.Core.Path.{_≡_}
 --: use Prim.Native.Nat.{_-_}
 --: use lib.ListN.{length}
---: Inv-loop = (length case ≡ length case₀) × (length lent ≡ length lent₀) × (length reply ≡ length reply₀) × (length text ≡ length text₀)
+--: Inv-loop = (length case ≡ length case₀) × (length reply ≡ length reply₀) × (length text ≡ length text₀)
 --: μ-loop = i-end - i
 use mathlib.Core.Path.{_≡_}
 use Prim.Native.Nat.{_-_}
@@ -12,10 +12,10 @@ use borrow.Author.Needs.{needs}
 use Rattle.answers.proofs.feed.Tie as tie
 
 abbrev Inv-loop : tie.InvT-loop
-Inv-loop chunk case₀ lent₀ reply₀ text₀ l₀ i₀ i-end case lent reply text l i = (length case ≡ length case₀) × (length lent ≡ length lent₀) × (length reply ≡ length reply₀) × (length text ≡ length text₀)
+Inv-loop chunk case₀ reply₀ text₀ l₀ i₀ i-end case reply text l i = (length case ≡ length case₀) × (length reply ≡ length reply₀) × (length text ≡ length text₀)
 
 abbrev μ-loop : tie.MeasureT-loop
-μ-loop chunk case₀ lent₀ reply₀ text₀ l₀ i₀ i-end case lent reply text l i = i-end - i
+μ-loop chunk case₀ reply₀ text₀ l₀ i₀ i-end case reply text l i = i-end - i
 
 loop-holds : tie.Need-loop-holds Inv-loop μ-loop
 loop-holds c = search needs
@@ -44,9 +44,6 @@ same-length-2 c = search needs
 same-length-3 : tie.Need-same-length-3 Inv-loop μ-loop
 same-length-3 c = search needs
 
-same-length-4 : tie.Need-same-length-4 Inv-loop μ-loop
-same-length-4 c = search needs
-
 returns : tie.Need-returns Inv-loop μ-loop
 returns c = search needs
 
@@ -65,5 +62,4 @@ feed-spec =
     same-length
     same-length-2
     same-length-3
-    same-length-4
     returns)

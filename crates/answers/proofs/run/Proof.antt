@@ -1,7 +1,7 @@
 -- `answers::run` is safe and ends. Each lent slice keeps its length; the measure is the number of turns that are left. Assumes nothing.
 --: use mathlib.Core.Path.{_≡_}
 --: use lib.ListN.{length}
---: Inv-loop = (length chunk ≡ length chunk₀) × (length case ≡ length case₀) × (length lent ≡ length lent₀) × (length reply ≡ length reply₀) × (length text ≡ length text₀)
+--: Inv-loop = (length chunk ≡ length chunk₀) × (length case ≡ length case₀) × (length reply ≡ length reply₀) × (length text ≡ length text₀)
 --: μ-loop = turns
 use mathlib.Core.Path.{_≡_}
 use lib.ListN.{length}
@@ -10,10 +10,10 @@ use borrow.Author.Needs.{needs}
 use Rattle.answers.proofs.run.Tie as tie
 
 abbrev Inv-loop : tie.InvT-loop
-Inv-loop chunk₀ case₀ lent₀ reply₀ text₀ line₀ turns₀ chunk case lent reply text line turns = (length chunk ≡ length chunk₀) × (length case ≡ length case₀) × (length lent ≡ length lent₀) × (length reply ≡ length reply₀) × (length text ≡ length text₀)
+Inv-loop chunk₀ case₀ reply₀ text₀ line₀ turns₀ chunk case reply text line turns = (length chunk ≡ length chunk₀) × (length case ≡ length case₀) × (length reply ≡ length reply₀) × (length text ≡ length text₀)
 
 abbrev μ-loop : tie.MeasureT-loop
-μ-loop chunk₀ case₀ lent₀ reply₀ text₀ line₀ turns₀ chunk case lent reply text line turns = turns
+μ-loop chunk₀ case₀ reply₀ text₀ line₀ turns₀ chunk case reply text line turns = turns
 
 blank-line-requires : tie.Need-blank-line-requires Inv-loop μ-loop
 blank-line-requires c κs = search needs
@@ -42,9 +42,6 @@ same-length-3 c = search needs
 same-length-4 : tie.Need-same-length-4 Inv-loop μ-loop
 same-length-4 c = search needs
 
-same-length-5 : tie.Need-same-length-5 Inv-loop μ-loop
-same-length-5 c = search needs
-
 returns : tie.Need-returns Inv-loop μ-loop
 returns c = search needs
 
@@ -66,6 +63,9 @@ loop-less c = search needs
 loop-again : tie.Need-loop-again Inv-loop μ-loop
 loop-again c = search needs
 
+same-length-5 : tie.Need-same-length-5 Inv-loop μ-loop
+same-length-5 c = search needs
+
 same-length-6 : tie.Need-same-length-6 Inv-loop μ-loop
 same-length-6 c = search needs
 
@@ -74,12 +74,6 @@ same-length-7 c = search needs
 
 same-length-8 : tie.Need-same-length-8 Inv-loop μ-loop
 same-length-8 c = search needs
-
-same-length-9 : tie.Need-same-length-9 Inv-loop μ-loop
-same-length-9 c = search needs
-
-same-length-10 : tie.Need-same-length-10 Inv-loop μ-loop
-same-length-10 c = search needs
 
 returns-2 : tie.Need-returns-2 Inv-loop μ-loop
 returns-2 c = search needs
@@ -99,7 +93,6 @@ run-spec =
     same-length-2
     same-length-3
     same-length-4
-    same-length-5
     returns
     slice-reshare-prefix-feed
     slice-aggregate-feed
@@ -107,9 +100,8 @@ run-spec =
     sub-turns
     loop-less
     loop-again
+    same-length-5
     same-length-6
     same-length-7
     same-length-8
-    same-length-9
-    same-length-10
     returns-2)

@@ -2,8 +2,8 @@
 --: use mathlib.Core.Path.{_≡_}
 --: use Prim.Native.Nat.{_-_}
 --: use lib.ListN.{length}
---: Inv-loop = length lent ≡ length lent₀
---: μ-loop = room - i
+--: Inv-loop = length reply ≡ length reply₀
+--: μ-loop = end - i
 use mathlib.Core.Path.{_≡_}
 use Prim.Native.Nat.{_-_}
 use lib.ListN.{length}
@@ -12,10 +12,10 @@ use borrow.Author.Needs.{needs}
 use Rattle.answers.proofs.said.fill.Tie as tie
 
 abbrev Inv-loop : tie.InvT-loop
-Inv-loop lent₀ room i₀ lent i = length lent ≡ length lent₀
+Inv-loop reply₀ end i₀ reply i = length reply ≡ length reply₀
 
 abbrev μ-loop : tie.MeasureT-loop
-μ-loop lent₀ room i₀ lent i = room - i
+μ-loop reply₀ end i₀ reply i = end - i
 
 loop-holds : tie.Need-loop-holds Inv-loop μ-loop
 loop-holds c = search needs
