@@ -2,7 +2,7 @@
 use c_answers::fill;
 use c_answers::refusal_answer;
 use c_answers::size_answer;
-use close_encode::write_forward_close_over;
+use close_over::write_forward_close_over;
 use close_read::CloseRead;
 use close_read::read_forward_close;
 use connection::ForwardCloseRequest;
@@ -10,7 +10,7 @@ ghost use mathlib.Core.Path.{_≡_};
 ghost use lib.ListN.{length};
 ghost use Rattle.wire.specs.Answers.{withRoom, written};
 ghost use Rattle.connection_words.specs.Requests.{closeBytes};
-ghost use Rattle.close_encode.specs.Over.{closeOverSize};
+ghost use Rattle.close_over.specs.Over.{closeOverSize};
 ghost use Rattle.close_read.specs.Reads.{closed};
 ghost use Rattle.c_answers.specs.Codes.{code, runAnswer, runLeft};
 ghost use Rattle.c_closes.specs.Closes.{closedNumbers, closeRun, closeOf};

@@ -62,9 +62,12 @@ use Rattle.close_sizes.proofs.Exact as CloseSizes
 use Rattle.open_encode.proofs.write_forward_open
 use Rattle.open_encode.proofs.write_forward_open_over
 use Rattle.open_encode.proofs.Exact as OpenEncode
+use Rattle.close_fields.proofs.put_close_fields
+use Rattle.close_fields.proofs.Exact as CloseFields
 use Rattle.close_encode.proofs.write_forward_close
-use Rattle.close_encode.proofs.write_forward_close_over
 use Rattle.close_encode.proofs.Exact as CloseEncode
+use Rattle.close_over.proofs.write_forward_close_over
+use Rattle.close_over.proofs.Exact as CloseOver
 use Rattle.request_sizes.proofs.message_size
 use Rattle.request_sizes.proofs.unconnected_send_size
 use Rattle.request_sizes.proofs.Exact as RequestSizes
@@ -248,8 +251,11 @@ pub record Claims : Type 2 where
   -- open_encode
   pub write-forward-open : Exact write_forward_open.ended (λ _. write_forward_open.clauses)
   pub write-forward-open-over : Exact write_forward_open_over.ended (λ _. write_forward_open_over.clauses)
+  -- close_fields
+  pub put-close-fields : Exact put_close_fields.ended (λ _. put_close_fields.clauses)
   -- close_encode
   pub write-forward-close : Exact write_forward_close.ended (λ _. write_forward_close.clauses)
+  -- close_over
   pub write-forward-close-over : Exact write_forward_close_over.ended (λ _. write_forward_close_over.clauses)
   -- request_sizes
   pub message-size : Exact message_size.ended (λ _. message_size.clauses)
@@ -416,8 +422,9 @@ claims =
       forward-close-size = CloseSizes.forward-close-size-exact;
       write-forward-open = OpenEncode.write-forward-open-exact;
       write-forward-open-over = OpenEncode.write-forward-open-over-exact;
+      put-close-fields = CloseFields.put-close-fields-exact;
       write-forward-close = CloseEncode.write-forward-close-exact;
-      write-forward-close-over = CloseEncode.write-forward-close-over-exact;
+      write-forward-close-over = CloseOver.write-forward-close-over-exact;
       message-size = RequestSizes.message-size-exact;
       unconnected-send-size = RequestSizes.unconnected-send-size-exact;
       write-message = MessageEncode.write-message-exact;

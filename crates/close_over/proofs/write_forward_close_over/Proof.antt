@@ -1,12 +1,12 @@
--- `close_encode::over::write_forward_close_over` meets its contract. Assumes nothing.
+-- `close_over::write_forward_close_over` meets its contract. Assumes nothing.
 --: use Rattle.wire.proofs.Answers.{writer-laws}
---: use Rattle.close_encode.proofs.OverLaws.{judged-laws}
+--: use Rattle.close_over.proofs.OverLaws.{judged-laws}
 --: * = search (writer-laws, judged-laws, needs) fits 5000
 use Rattle.wire.proofs.Answers.{writer-laws}
-use Rattle.close_encode.proofs.OverLaws.{judged-laws}
+use Rattle.close_over.proofs.OverLaws.{judged-laws}
 use borrow.Author.Needs.{needs}
-use Rattle.close_encode.proofs.over.write_forward_close_over.Statement.{statement}
-use Rattle.close_encode.proofs.over.write_forward_close_over.Tie as tie
+use Rattle.close_over.proofs.write_forward_close_over.Statement.{statement}
+use Rattle.close_over.proofs.write_forward_close_over.Tie as tie
 
 close-over-size-requires : tie.Need-close-over-size-requires
 close-over-size-requires c κs = search needs

@@ -1,10 +1,10 @@
--- `close_encode::close::put_close_fields` meets its contract. Assumes nothing.
---: use Rattle.close_encode.proofs.WriteLaws.{close-laws}
---: * = search (close-laws, needs) fits 5000
-use Rattle.close_encode.proofs.WriteLaws.{close-laws}
+-- `close_fields::put_close_fields` meets its contract. Assumes nothing.
+--: use Rattle.close_fields.proofs.Laws.{close-fields}
+--: * = search (close-fields, needs) fits 5000
+use Rattle.close_fields.proofs.Laws.{close-fields}
 use borrow.Author.Needs.{needs}
-use Rattle.close_encode.proofs.close.put_close_fields.Statement.{statement}
-use Rattle.close_encode.proofs.close.put_close_fields.Tie as tie
+use Rattle.close_fields.proofs.put_close_fields.Statement.{statement}
+use Rattle.close_fields.proofs.put_close_fields.Tie as tie
 
 slice-aggregate-put-bytes : tie.Need-slice-aggregate-put-bytes
 slice-aggregate-put-bytes c = search needs
@@ -25,7 +25,7 @@ same-length : tie.Need-same-length
 same-length c = search needs
 
 returns : tie.Need-returns
-returns c = search (close-laws, needs) fits 5000
+returns c = search (close-fields, needs) fits 5000
 
 pub put-close-fields-spec : {M : Type 1} → statement M
 put-close-fields-spec =

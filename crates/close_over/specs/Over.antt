@@ -2,9 +2,8 @@
 use Prim.Native.Nat.{ℕ, _+_}
 use mathlib.Core.List.{List}
 use Rattle.wire.specs.Answers.{Answer, done, andThen}
-use Rattle.close_sizes.specs.Sizes.{closeBase}
 use Rattle.route_written.specs.Written.{writtenRoute}
 
 -- the path's own refusal, else 12 and the path
 unfoldable pub closeOverSize : List ℕ → Answer ℕ
-closeOverSize path = andThen (writtenRoute path) (λ n. done (closeBase + n))
+closeOverSize path = andThen (writtenRoute path) (λ n. done (12 + n))

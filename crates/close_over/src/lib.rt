@@ -1,5 +1,5 @@
 // Forward Close over a path that was written before: it is judged and copied, and no list of segments is needed.
-use crate::close::put_close_fields;
+use close_fields::put_close_fields;
 use connection::ForwardCloseRequest;
 use route_written::written_route;
 use wire::Counted;
@@ -13,7 +13,7 @@ ghost use lib.Seq.{sets};
 ghost use Rattle.wire.specs.Answers.{paperSize, withRoom, written};
 ghost use Rattle.connection.specs.Limits.{maxPath};
 ghost use Rattle.connection_words.specs.Requests.{closeBytes};
-ghost use Rattle.close_encode.specs.Over.{closeOverSize};
+ghost use Rattle.close_over.specs.Over.{closeOverSize};
 
 fn close_over_size(path: &[u8]) -> Wrote
     ensures { λ r. ⌜ paperSize r ≡ closeOverSize (now (path .entry)) ⌝ }

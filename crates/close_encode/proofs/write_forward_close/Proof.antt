@@ -1,12 +1,12 @@
--- `close_encode::close::write_forward_close` meets its contract. Assumes nothing.
+-- `close_encode::write_forward_close` meets its contract. Assumes nothing.
 --: use Rattle.wire.proofs.Answers.{writer-laws}
 --: use Rattle.close_sizes.proofs.SizeLaws.{ready-laws, length-laws}
 --: * = search (writer-laws, ready-laws, length-laws, needs) fits 5000
 use Rattle.wire.proofs.Answers.{writer-laws}
 use Rattle.close_sizes.proofs.SizeLaws.{ready-laws, length-laws}
 use borrow.Author.Needs.{needs}
-use Rattle.close_encode.proofs.close.write_forward_close.Statement.{statement}
-use Rattle.close_encode.proofs.close.write_forward_close.Tie as tie
+use Rattle.close_encode.proofs.write_forward_close.Statement.{statement}
+use Rattle.close_encode.proofs.write_forward_close.Tie as tie
 
 forward-close-size-requires : tie.Need-forward-close-size-requires
 forward-close-size-requires c κs = search needs

@@ -1,12 +1,13 @@
--- `close_encode::close::put_close` meets its contract. Assumes nothing.
+-- `close_encode::put_close` meets its contract. Assumes nothing.
 --: use Rattle.route.proofs.RouteLaws.{put-laws}
---: use Rattle.close_encode.proofs.WriteLaws.{close-laws}
---: * = search (put-laws, close-laws, needs) fits 5000
+--: use Rattle.close_encode.proofs.WriteLaws.{close-put}
+--: cast-put-close-fields = search (put-laws, needs) fits 5000
+--: * = search (put-laws, close-put, needs) fits 5000
 use Rattle.route.proofs.RouteLaws.{put-laws}
-use Rattle.close_encode.proofs.WriteLaws.{close-laws}
+use Rattle.close_encode.proofs.WriteLaws.{close-put}
 use borrow.Author.Needs.{needs}
-use Rattle.close_encode.proofs.close.put_close.Statement.{statement}
-use Rattle.close_encode.proofs.close.put_close.Tie as tie
+use Rattle.close_encode.proofs.put_close.Statement.{statement}
+use Rattle.close_encode.proofs.put_close.Tie as tie
 
 sub-write-path : tie.Need-sub-write-path
 sub-write-path c = search needs
@@ -27,7 +28,7 @@ enum-known-n : tie.Need-enum-known-n
 enum-known-n c = search needs
 
 cast-put-close-fields : tie.Need-cast-put-close-fields
-cast-put-close-fields c = search (put-laws, close-laws, needs) fits 5000
+cast-put-close-fields c = search (put-laws, needs) fits 5000
 
 put-close-fields-requires : tie.Need-put-close-fields-requires
 put-close-fields-requires c κs = search needs
@@ -36,13 +37,13 @@ same-length : tie.Need-same-length
 same-length c = search needs
 
 returns : tie.Need-returns
-returns c = search (put-laws, close-laws, needs) fits 5000
+returns c = search (put-laws, close-put, needs) fits 5000
 
 same-length-2 : tie.Need-same-length-2
 same-length-2 c = search needs
 
 returns-2 : tie.Need-returns-2
-returns-2 c = search (put-laws, close-laws, needs) fits 5000
+returns-2 c = search (put-laws, close-put, needs) fits 5000
 
 pub put-close-spec : {M : Type 1} → statement M
 put-close-spec =

@@ -1,10 +1,10 @@
--- `close_encode::over::put_close_over` meets its contract. Assumes nothing.
---: use Rattle.close_encode.proofs.WriteLaws.{close-laid}
+-- `close_over::put_close_over` meets its contract. Assumes nothing.
+--: use Rattle.close_fields.proofs.Laws.{close-laid}
 --: * = search (close-laid, needs) fits 5000
-use Rattle.close_encode.proofs.WriteLaws.{close-laid}
+use Rattle.close_fields.proofs.Laws.{close-laid}
 use borrow.Author.Needs.{needs}
-use Rattle.close_encode.proofs.over.put_close_over.Statement.{statement}
-use Rattle.close_encode.proofs.over.put_close_over.Tie as tie
+use Rattle.close_over.proofs.put_close_over.Statement.{statement}
+use Rattle.close_over.proofs.put_close_over.Tie as tie
 
 put-bytes-requires : tie.Need-put-bytes-requires
 put-bytes-requires c κs = search needs

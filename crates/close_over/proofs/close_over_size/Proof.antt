@@ -1,10 +1,10 @@
--- `close_encode::over::close_over_size` meets its contract. Assumes nothing.
---: use Rattle.close_encode.proofs.OverLaws.{over-laws}
+-- `close_over::close_over_size` meets its contract. Assumes nothing.
+--: use Rattle.close_over.proofs.OverLaws.{over-laws}
 --: * = search (over-laws, needs) fits 5000
-use Rattle.close_encode.proofs.OverLaws.{over-laws}
+use Rattle.close_over.proofs.OverLaws.{over-laws}
 use borrow.Author.Needs.{needs}
-use Rattle.close_encode.proofs.over.close_over_size.Statement.{statement}
-use Rattle.close_encode.proofs.over.close_over_size.Tie as tie
+use Rattle.close_over.proofs.close_over_size.Statement.{statement}
+use Rattle.close_over.proofs.close_over_size.Tie as tie
 
 written-route-requires : tie.Need-written-route-requires
 written-route-requires c κs = search needs

@@ -19,7 +19,7 @@ use Rattle.connection_words.specs.Requests.{closeBytes}
 use Rattle.connection_words.proofs.Lengths.{close-length}
 use Rattle.route_written.specs.Written.{writtenRoute}
 use Rattle.route_written.proofs.WrittenLaws.{over-stops, over-goes, over-short, Over, over-was}
-use Rattle.close_encode.specs.Over.{closeOverSize}
+use Rattle.close_over.specs.Over.{closeOverSize}
 
 -- ---- forwards: from the path's judgement
 module _ (path : List ℕ) (w : Counted) (is : paperCount w ≡ writtenRoute path) where
