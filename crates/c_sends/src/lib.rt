@@ -3,14 +3,14 @@ use c_answers::fill;
 use c_answers::refusal_answer;
 use c_answers::size_answer;
 use connection::UnconnectedSend;
-use send_encode::write_unconnected_send_over;
+use send_over::write_unconnected_send_over;
 use send_read::SendRead;
 use send_read::read_unconnected_send;
 ghost use mathlib.Core.Path.{_≡_};
 ghost use lib.ListN.{length};
 ghost use Rattle.wire.specs.Answers.{withRoom, written};
 ghost use Rattle.connection_words.specs.Requests.{sendBytes};
-ghost use Rattle.send_encode.specs.Over.{sendOverSize};
+ghost use Rattle.send_over.specs.Over.{sendOverSize};
 ghost use Rattle.c_answers.specs.Codes.{code, runAnswer, runLeft};
 ghost use Rattle.c_sends.specs.Fields.{sendOf, sendRun};
 

@@ -75,9 +75,12 @@ use Rattle.message_encode.proofs.write_message
 use Rattle.message_encode.proofs.Exact as MessageEncode
 use Rattle.message_over.proofs.write_message_over
 use Rattle.message_over.proofs.Exact as MessageOver
+use Rattle.send_fields.proofs.put_send_fields
+use Rattle.send_fields.proofs.Exact as SendFields
 use Rattle.send_encode.proofs.write_unconnected_send
-use Rattle.send_encode.proofs.write_unconnected_send_over
 use Rattle.send_encode.proofs.Exact as SendEncode
+use Rattle.send_over.proofs.write_unconnected_send_over
+use Rattle.send_over.proofs.Exact as SendOver
 use Rattle.request_first.proofs.first_byte
 use Rattle.request_first.proofs.Exact as RequestFirst
 use Rattle.message_read.proofs.read_message
@@ -264,8 +267,11 @@ pub record Claims : Type 2 where
   pub write-message : Exact write_message.ended (λ _. write_message.clauses)
   -- message_over
   pub write-message-over : Exact write_message_over.ended (λ _. write_message_over.clauses)
+  -- send_fields
+  pub put-send-fields : Exact put_send_fields.ended (λ _. put_send_fields.clauses)
   -- send_encode
   pub write-unconnected-send : Exact write_unconnected_send.ended (λ _. write_unconnected_send.clauses)
+  -- send_over
   pub write-unconnected-send-over : Exact write_unconnected_send_over.ended (λ _. write_unconnected_send_over.clauses)
   -- request_first
   pub first-byte : Exact first_byte.ended (λ _. first_byte.clauses)
@@ -429,8 +435,9 @@ claims =
       unconnected-send-size = RequestSizes.unconnected-send-size-exact;
       write-message = MessageEncode.write-message-exact;
       write-message-over = MessageOver.write-message-over-exact;
+      put-send-fields = SendFields.put-send-fields-exact;
       write-unconnected-send = SendEncode.write-unconnected-send-exact;
-      write-unconnected-send-over = SendEncode.write-unconnected-send-over-exact;
+      write-unconnected-send-over = SendOver.write-unconnected-send-over-exact;
       first-byte = RequestFirst.first-byte-exact;
       read-message = MessageRead.read-message-exact;
       route-at = MessageRead.route-at-exact;

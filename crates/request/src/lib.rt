@@ -18,6 +18,6 @@ pub use open_sizes::forward_open_size;
 pub use request_sizes::message_size;
 pub use request_sizes::unconnected_send_size;
 pub use send_encode::write_unconnected_send;
-pub use send_encode::write_unconnected_send_over;
+pub use send_over::write_unconnected_send_over;
 pub use send_read::SendRead;
 pub use send_read::read_unconnected_send;

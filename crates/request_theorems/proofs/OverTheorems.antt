@@ -25,7 +25,7 @@ use Rattle.route.proofs.RouteLaws.{RouteSized, route-sized}
 use Rattle.route_written.specs.Written.{writtenRoute, overSize}
 use Rattle.request_sizes.specs.Sizes.{messageSize, sendSize}
 use Rattle.message_over.specs.Over.{messageOverSize}
-use Rattle.send_encode.specs.Over.{sendOverSize}
+use Rattle.send_over.specs.Over.{sendOverSize}
 
 -- writers of the same bytes, the one sized as x and the other as y: one answer, and one content of the output
 abbrev pub Alike : Answer ℕ → Answer ℕ → List ℕ → List ℕ → Type 0

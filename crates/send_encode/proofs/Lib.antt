@@ -1,3 +1,2 @@
 pub mod WriteLaws
-pub mod OverLaws
 pub mod Exact

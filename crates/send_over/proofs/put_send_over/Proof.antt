@@ -1,10 +1,10 @@
--- `send_encode::over::put_send_over` meets its contract. Assumes nothing.
---: use Rattle.send_encode.proofs.WriteLaws.{send-around}
+-- `send_over::put_send_over` meets its contract. Assumes nothing.
+--: use Rattle.send_fields.proofs.Laws.{send-around}
 --: * = search (send-around, needs) fits 5000
-use Rattle.send_encode.proofs.WriteLaws.{send-around}
+use Rattle.send_fields.proofs.Laws.{send-around}
 use borrow.Author.Needs.{needs}
-use Rattle.send_encode.proofs.over.put_send_over.Statement.{statement}
-use Rattle.send_encode.proofs.over.put_send_over.Tie as tie
+use Rattle.send_over.proofs.put_send_over.Statement.{statement}
+use Rattle.send_over.proofs.put_send_over.Tie as tie
 
 add-put-bytes : tie.Need-add-put-bytes
 add-put-bytes c = search needs
@@ -15,17 +15,17 @@ add-put-bytes-2 c = search needs
 put-bytes-requires : tie.Need-put-bytes-requires
 put-bytes-requires c κs = search needs
 
-put-send-head-requires : tie.Need-put-send-head-requires
-put-send-head-requires c κs = search needs
-
 put-bytes-requires-2 : tie.Need-put-bytes-requires-2
 put-bytes-requires-2 c κs = search needs
 
-cast-put-send-rest : tie.Need-cast-put-send-rest
-cast-put-send-rest c = search needs
+cast-put-send-fields : tie.Need-cast-put-send-fields
+cast-put-send-fields c = search needs
 
-put-send-rest-requires : tie.Need-put-send-rest-requires
-put-send-rest-requires c κs = search needs
+cast-put-send-fields-2 : tie.Need-cast-put-send-fields-2
+cast-put-send-fields-2 c = search needs
+
+put-send-fields-requires : tie.Need-put-send-fields-requires
+put-send-fields-requires c κs = search needs
 
 same-length : tie.Need-same-length
 same-length c = search needs
@@ -40,9 +40,9 @@ put-send-over-spec =
     add-put-bytes
     add-put-bytes-2
     put-bytes-requires
-    put-send-head-requires
     put-bytes-requires-2
-    cast-put-send-rest
-    put-send-rest-requires
+    cast-put-send-fields
+    cast-put-send-fields-2
+    put-send-fields-requires
     same-length
     returns)

@@ -1,12 +1,12 @@
--- `send_encode::send::write_unconnected_send` meets its contract. Assumes nothing.
+-- `send_encode::write_unconnected_send` meets its contract. Assumes nothing.
 --: use Rattle.wire.proofs.Answers.{writer-laws}
 --: use Rattle.request_sizes.proofs.SizeLaws.{ready-laws, length-laws}
 --: * = search (writer-laws, ready-laws, length-laws, needs) fits 5000
 use Rattle.wire.proofs.Answers.{writer-laws}
 use Rattle.request_sizes.proofs.SizeLaws.{ready-laws, length-laws}
 use borrow.Author.Needs.{needs}
-use Rattle.send_encode.proofs.send.write_unconnected_send.Statement.{statement}
-use Rattle.send_encode.proofs.send.write_unconnected_send.Tie as tie
+use Rattle.send_encode.proofs.write_unconnected_send.Statement.{statement}
+use Rattle.send_encode.proofs.write_unconnected_send.Tie as tie
 
 unconnected-send-size-requires : tie.Need-unconnected-send-size-requires
 unconnected-send-size-requires c κs = search needs

@@ -1,8 +1,7 @@
 // Unconnected Send over a path that is given as its bytes, already written: judged, then copied. rseip-cip has none: it is added.
-use crate::send::put_send_head;
-use crate::send::put_send_rest;
 use connection::UnconnectedSend;
 use route_written::written_record;
+use send_fields::put_send_fields;
 use wire::Refusal;
 use wire::Wrote;
 use wire_write::put_bytes;
@@ -13,7 +12,7 @@ ghost use lib.Seq.{sets};
 ghost use Rattle.wire.specs.Answers.{paperSize, withRoom, written};
 ghost use Rattle.connection.specs.Limits.{maxPath, maxRecord};
 ghost use Rattle.connection_words.specs.Requests.{sendBytes};
-ghost use Rattle.send_encode.specs.Over.{sendOverSize};
+ghost use Rattle.send_over.specs.Over.{sendOverSize};
 
 // An Unconnected Send over a path that was judged.
 fn put_send_over(u: UnconnectedSend, message: &[u8], path: &[u8], out: &mut [u8])
@@ -23,9 +22,8 @@ fn put_send_over(u: UnconnectedSend, message: &[u8], path: &[u8], out: &mut [u8]
     let m = message.len();
     let n = path.len();
     put_bytes(out, 6 + m % 2 + m, path);
-    put_send_head(u, m, out);
     put_bytes(out, 4, message);
-    put_send_rest(m, (n / 2) as u8, out);
+    put_send_fields(u, m as u16, (n / 2) as u8, out);
 }
 
 // As write_unconnected_send, over a written path.

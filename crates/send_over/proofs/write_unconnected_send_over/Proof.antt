@@ -1,12 +1,12 @@
--- `send_encode::over::write_unconnected_send_over` meets its contract. Assumes nothing.
+-- `send_over::write_unconnected_send_over` meets its contract. Assumes nothing.
 --: use Rattle.wire.proofs.Answers.{writer-laws}
---: use Rattle.send_encode.proofs.OverLaws.{over-laws}
+--: use Rattle.send_over.proofs.OverLaws.{over-laws}
 --: * = search (writer-laws, over-laws, needs) fits 5000
 use Rattle.wire.proofs.Answers.{writer-laws}
-use Rattle.send_encode.proofs.OverLaws.{over-laws}
+use Rattle.send_over.proofs.OverLaws.{over-laws}
 use borrow.Author.Needs.{needs}
-use Rattle.send_encode.proofs.over.write_unconnected_send_over.Statement.{statement}
-use Rattle.send_encode.proofs.over.write_unconnected_send_over.Tie as tie
+use Rattle.send_over.proofs.write_unconnected_send_over.Statement.{statement}
+use Rattle.send_over.proofs.write_unconnected_send_over.Tie as tie
 
 add-written-record : tie.Need-add-written-record
 add-written-record c = search needs

@@ -1,12 +1,13 @@
--- `send_encode::send::put_send` meets its contract. Assumes nothing.
+-- `send_encode::put_send` meets its contract. Assumes nothing.
 --: use Rattle.route.proofs.RouteLaws.{put-laws}
---: use Rattle.send_encode.proofs.WriteLaws.{send-laws}
---: * = search (put-laws, send-laws, needs) fits 5000
+--: use Rattle.send_encode.proofs.WriteLaws.{send-put}
+--: cast-put-send-fields-2 = search (put-laws, needs) fits 5000
+--: * = search (put-laws, send-put, needs) fits 5000
 use Rattle.route.proofs.RouteLaws.{put-laws}
-use Rattle.send_encode.proofs.WriteLaws.{send-laws}
+use Rattle.send_encode.proofs.WriteLaws.{send-put}
 use borrow.Author.Needs.{needs}
-use Rattle.send_encode.proofs.send.put_send.Statement.{statement}
-use Rattle.send_encode.proofs.send.put_send.Tie as tie
+use Rattle.send_encode.proofs.put_send.Statement.{statement}
+use Rattle.send_encode.proofs.put_send.Tie as tie
 
 add-at : tie.Need-add-at
 add-at c = search needs
@@ -32,29 +33,29 @@ enum-told c = search needs
 enum-known-n : tie.Need-enum-known-n
 enum-known-n c = search needs
 
-put-send-head-requires : tie.Need-put-send-head-requires
-put-send-head-requires c κs = search needs
-
 put-bytes-requires : tie.Need-put-bytes-requires
 put-bytes-requires c κs = search needs
 
-cast-put-send-rest : tie.Need-cast-put-send-rest
-cast-put-send-rest c = search (put-laws, send-laws, needs) fits 5000
+cast-put-send-fields : tie.Need-cast-put-send-fields
+cast-put-send-fields c = search needs
 
-put-send-rest-requires : tie.Need-put-send-rest-requires
-put-send-rest-requires c κs = search needs
+cast-put-send-fields-2 : tie.Need-cast-put-send-fields-2
+cast-put-send-fields-2 c = search (put-laws, needs) fits 5000
+
+put-send-fields-requires : tie.Need-put-send-fields-requires
+put-send-fields-requires c κs = search needs
 
 same-length : tie.Need-same-length
 same-length c = search needs
 
 returns : tie.Need-returns
-returns c = search (put-laws, send-laws, needs) fits 5000
+returns c = search (put-laws, send-put, needs) fits 5000
 
 same-length-2 : tie.Need-same-length-2
 same-length-2 c = search needs
 
 returns-2 : tie.Need-returns-2
-returns-2 c = search (put-laws, send-laws, needs) fits 5000
+returns-2 c = search (put-laws, send-put, needs) fits 5000
 
 pub put-send-spec : {M : Type 1} → statement M
 put-send-spec =
@@ -68,10 +69,10 @@ put-send-spec =
     write-path-requires
     enum-told
     enum-known-n
-    put-send-head-requires
     put-bytes-requires
-    cast-put-send-rest
-    put-send-rest-requires
+    cast-put-send-fields
+    cast-put-send-fields-2
+    put-send-fields-requires
     same-length
     returns
     same-length-2
