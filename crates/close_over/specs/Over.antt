@@ -2,8 +2,9 @@
 use Prim.Native.Nat.{ℕ, _+_}
 use mathlib.Core.List.{List}
 use Rattle.wire.specs.Answers.{Answer, done, andThen}
+use Rattle.connection_words.specs.Requests.{closeBase}
 use Rattle.route_written.specs.Written.{writtenRoute}
 
--- the path's own refusal, else 12 and the path
+-- the path's own refusal, else what stands before it and the path
 unfoldable pub closeOverSize : List ℕ → Answer ℕ
-closeOverSize path = andThen (writtenRoute path) (λ n. done (12 + n))
+closeOverSize path = andThen (writtenRoute path) (λ n. done (closeBase + n))

@@ -4,10 +4,8 @@ use Prim.Native.Nat.{ℕ, _+_}
 use mathlib.Core.List.{List}
 use Rattle.wire.specs.Answers.{Answer, done, andThen}
 use Rattle.epath_sizes.specs.declared.Path.{Path}
+use Rattle.connection_words.specs.Requests.{closeBase}
 use Rattle.route.specs.Routes.{routeSize}
-
-abbrev pub closeBase : ℕ
-closeBase = 12
 
 unfoldable pub closeSize : List ℕ → Path → Answer ℕ
 closeSize pool p = andThen (routeSize pool p) (λ n. done (closeBase + n))

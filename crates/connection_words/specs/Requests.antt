@@ -56,7 +56,10 @@ openRest o w =
 unfoldable pub openBytes : OpenOptions → List ℕ → List ℕ
 openBytes o path = laid (openHead o) ++ (laid (openRest o (words path)) ++ path)
 
--- ---- Forward Close: what stands before the path
+-- ---- Forward Close: what stands before the path, and how many bytes that is
+
+abbrev pub closeBase : ℕ
+closeBase = 12
 
 abbrev pub closeFields : ForwardCloseRequest → ℕ → List Field
 closeFields c w =
