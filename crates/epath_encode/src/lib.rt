@@ -1,4 +1,4 @@
-// CIP paths: the writer. Beside it in rseip-cip: src/epath.rs.
+// CIP paths: the writer. Beside it in rseip-cip: src/codec/encode/epath.rs.
 mod encode; // encode.rt: the writer
 
 pub use encode::write_path;
