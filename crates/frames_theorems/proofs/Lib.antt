@@ -1,0 +1,5 @@
+pub mod Streams
+pub mod Holds
+pub mod States
+pub mod Cuts
+pub mod Reach

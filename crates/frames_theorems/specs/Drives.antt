@@ -1,0 +1,44 @@
+-- A driver of the collector: what it is handed out, and what stands then. Assumes nothing: these are definitions.
+use Prim.Native.Nat.{ℕ, zero, suc}
+use mathlib.Core.List.{List, [], _∷_, _++_}
+use lib.ListN.{length, take, drop}
+use Rattle.wire.specs.Numbers.{Bytes}
+use Rattle.wire.specs.Answers.{done, refused}
+use Rattle.frames.specs.Calls.{resetState, all, frame, scrapAnswer, stateAfter, bufferAfter}
+use Rattle.frames.specs.declared.FrameState.{FrameState}
+
+-- the state and the buffer as they stand, and the frames that were handed out, first to last
+pub record Driven : Type 0 where
+  pub state : FrameState
+  pub buffer : List ℕ
+  pub handed : List (List ℕ)
+
+-- frames that came before
+abbrev pub behind : List (List ℕ) → Driven → Driven
+behind fs d = record { state = d .state; buffer = d .buffer; handed = fs ++ d .handed }
+
+-- one scrap: a call, and where it handed out a frame, which lies at the front of the buffer, another with what is left of the scrap. A frame takes a
+-- byte at least, so the scrap's length bounds the calls
+abbrev pub gives : ℕ → FrameState → List ℕ → List ℕ → Driven
+gives zero s buffer scrap = record { state = s; buffer = buffer; handed = [] }
+gives (suc k) s buffer scrap =
+    elim (scrapAnswer s buffer scrap) [
+      | refused e ↦ record { state = stateAfter s buffer scrap; buffer = bufferAfter s buffer scrap; handed = [] }
+      | done all ↦ record { state = stateAfter s buffer scrap; buffer = bufferAfter s buffer scrap; handed = [] }
+      | done (frame n m) ↦ behind (take n (bufferAfter s buffer scrap) ∷ []) (gives k (stateAfter s buffer scrap) (bufferAfter s buffer scrap) (drop m scrap))
+    ]
+
+-- scraps, one after the other, over one buffer
+abbrev pub drive : FrameState → List ℕ → List (List ℕ) → Driven
+drive s buffer [] = record { state = s; buffer = buffer; handed = [] }
+drive s buffer (scrap ∷ scraps) =
+    let d : Driven = gives (length scrap) s buffer scrap in
+    behind (d .handed) (drive (d .state) (d .buffer) scraps)
+
+-- a state and a buffer that calls from a reset leave, over one buffer that holds bytes; and a state that some calls leave, over some buffer
+pub data Leaves : FrameState → List ℕ → Type 0 where
+  reset : (buffer : List ℕ) → Bytes buffer → Leaves resetState buffer
+  call : (s : FrameState) (buffer scrap : List ℕ) → Leaves s buffer → Bytes scrap → Leaves (stateAfter s buffer scrap) (bufferAfter s buffer scrap)
+
+abbrev pub Left : FrameState → Type 0
+Left s = (buffer : List ℕ) × Leaves s buffer
