@@ -12,7 +12,7 @@ root=$(dirname "$here")
 pages=${1:?the folder of the pages}
 shift
 build=${TMPDIR:-/tmp}/barkcushion-oracle
-answers=$root/target/bin/answers
+answers=
 mode=compare
 folder=$root/crates/answers
 refused=
@@ -35,7 +35,15 @@ while [ $# -gt 0 ]; do
 done
 sh "$here/build.sh" "$pages" "$build"
 if [ "$mode" = compare ]; then
-    exec "$build/target/release/compare" --seed "$seed" --count "$count" --answers "$answers" ${refused:+"$refused"}
+    if [ -n "$answers" ]; then
+        [ -f "$answers" ] || { echo "no program $answers" >&2; exit 2; }
+        set -- "$answers"
+    else
+        # proved and built now; then what was built is asked to the end, whatever is changed in the tree meanwhile
+        sh "$root/tools/run.sh" answers </dev/null
+        set -- sh "$root/tools/run.sh" --built answers
+    fi
+    exec "$build/target/release/compare" --seed "$seed" --count "$count" ${refused:+"$refused"} --answers "$@"
 fi
 if [ "$mode" = --cards ]; then
     exec "$build/target/release/cards" --record

@@ -17,7 +17,7 @@ use std::thread;
 const BATCH: usize = 60_000;
 
 /// All fixed cases, then random ones until `count` of them were the crate's.
-pub fn compare(program: &str, seed: u64, count: u64, tally: &mut Tally) {
+pub fn compare(program: &[String], seed: u64, count: u64, tally: &mut Tally) {
     let mut child = start(program);
     let input = child.stdin.take().unwrap();
     let mut output = BufReader::with_capacity(1 << 16, child.stdout.take().unwrap());
@@ -97,8 +97,10 @@ impl Feed {
     }
 }
 
-fn start(program: &str) -> Child {
-    Command::new(program).stdin(Stdio::piped()).stdout(Stdio::piped()).spawn().unwrap_or_else(|e| panic!("{program}: {e}"))
+fn start(program: &[String]) -> Child {
+    let mut command = Command::new(&program[0]);
+    command.args(&program[1..]).stdin(Stdio::piped()).stdout(Stdio::piped());
+    command.spawn().unwrap_or_else(|e| panic!("{}: {e}", program[0]))
 }
 
 fn ended(mut child: Child, tally: &mut Tally) {
@@ -108,7 +110,7 @@ fn ended(mut child: Child, tally: &mut Tally) {
     }
 }
 
-fn run_whole(program: &str, script: &[u8], tally: &mut Tally) -> Vec<u8> {
+fn run_whole(program: &[String], script: &[u8], tally: &mut Tally) -> Vec<u8> {
     let mut child = start(program);
     let mut input = child.stdin.take().unwrap();
     let mut output = child.stdout.take().unwrap();

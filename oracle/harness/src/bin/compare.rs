@@ -1,4 +1,4 @@
-//! compare [--seed S] [--count N] [--answers PROGRAM] [--refused]
+//! compare [--seed S] [--count N] [--refused] --answers PROGRAM [ARG..]
 //!                                asks the program, the crate and the judge
 //! compare --record FOLDER        writes FOLDER/stdin and FOLDER/stdout
 //! compare --recorded FOLDER      asks the crate and the judge again for what stands there
@@ -12,7 +12,7 @@ fn main() {
     harness::quiet_panics();
     let mut seed = 1;
     let mut count = 1_000_000;
-    let mut answers = "target/bin/answers".to_string();
+    let mut answers = vec![];
     let (mut to, mut from, mut refused) = (None, None, false);
     let mut args = std::env::args().skip(1);
     while let Some(a) = args.next() {
@@ -25,7 +25,7 @@ fn main() {
         match a.as_str() {
             "--seed" => seed = number(),
             "--count" => count = number(),
-            "--answers" => answers = value,
+            "--answers" => answers = [value].into_iter().chain(args.by_ref()).collect(),
             "--record" => to = Some(value),
             "--recorded" => from = Some(value),
             _ => usage(&a),
@@ -42,8 +42,8 @@ fn main() {
     if let Some(folder) = from {
         record::again(&folder, &mut tally).unwrap_or_else(|e| fail(&format!("{folder}: {e}")));
     } else {
-        if !std::path::Path::new(&answers).exists() {
-            fail(&format!("no program {answers}: build it, or name another with --answers"));
+        if answers.is_empty() {
+            usage("no --answers");
         }
         run::compare(&answers, seed, count, &mut tally);
     }
@@ -53,7 +53,9 @@ fn main() {
 }
 
 fn usage(at: &str) -> ! {
-    fail(&format!("{at}? compare [--seed S] [--count N] [--answers PROGRAM] [--refused] | --record FOLDER | --recorded FOLDER"))
+    fail(&format!(
+        "{at}? compare [--seed S] [--count N] [--refused] --answers PROGRAM [ARG..] | --record FOLDER | --recorded FOLDER"
+    ))
 }
 
 fn fail(text: &str) -> ! {
