@@ -14,7 +14,8 @@ enum {
     CANARY = 64,
     MOST = 72000,     /* bytes of the longest input that is made */
     MOST_ITEMS = 22000, /* no body has more than 21,844 */
-    MOST_SEGMENTS = 140
+    MOST_SEGMENTS = 140,
+    PARTS = 4 /* parts that are lent in a call, at most */
 };
 
 /* ---- the input */
@@ -71,14 +72,14 @@ static bool same(const void *a, const void *b, size_t n)
 
 enum place { HEAP, END, FRONT, TOGETHER };
 
-static uint8_t *arenas[3]; /* two inputs and an output */
+static uint8_t *arenas[PARTS]; /* two inputs and an output; or what bark_take_scrap is lent */
 static uint8_t noise[ARENA];
 
 static void set_up(void)
 {
     size_t k;
     uint64_t x = 1;
-    for (k = 0; k < 3; k++) {
+    for (k = 0; k < PARTS; k++) {
         uint8_t *p = mmap(NULL, 3 * ARENA, PROT_NONE, MAP_PRIVATE | MAP_ANONYMOUS, -1, 0);
         if (p == MAP_FAILED || mprotect(p + ARENA, ARENA, PROT_READ | PROT_WRITE) != 0) {
             perror("mmap");
@@ -145,6 +146,7 @@ struct call {
     size_t n[BARK_OPEN_WRITTEN + 1];
     void *out;
     size_t room; /* elements */
+    size_t *state, *frame; /* of bark_take_scrap, whose out is the buffer */
 };
 
 #define IN(k) c->in[k], c->len[k]
@@ -188,7 +190,8 @@ struct call {
     X(walk_reply, 1, 0, sizeof(size_t), 1, (IN(0), N(0), N(1), OUT))                                                                          \
     X(read_replies, 1, 0, sizeof(size_t), BARK_REPLY_ROW, (IN(0), OUT))                                                                       \
     X(join_bodies, 1, 1, 1, 1, (IN(0), IN(1), OUT))                                                                                           \
-    X(read_nested, 1, 0, 2, BARK_ROW, (IN(0), OUT))
+    X(read_nested, 1, 0, 2, BARK_ROW, (IN(0), OUT))                                                                                           \
+    X(take_scrap, 0, 0, 0, 0, (c->state, OUT, IN(0), c->frame))
 
 /* The record for bark_write_open; the numbers are as in enum bark_open, then whether it is a large one. */
 static const struct bark_open_options *options(const struct call *c)
@@ -505,6 +508,59 @@ static int64_t ask_nested(struct part s, uint16_t *rows)
 {
     struct call c = {.in = {s.at}, .len = {s.n}};
     return ask(F_read_nested, c, law_nested(s.at, s.n, 0, rows, 0), rows);
+}
+
+/* Frames are asked about in a way of their own: state and buffer go in and come out. They and *frame become what the law wants of them. */
+static int64_t ask_take_scrap(size_t *state, uint8_t *buffer, size_t room, struct part scrap, size_t *frame)
+{
+    static uint8_t after[MOST];
+    const enum place places[3] = {HEAP, END, salt & 1 ? FRONT : TOGETHER};
+    size_t turn, k, state_after[BARK_FRAME_STATE], frame_after = *frame;
+    int64_t want;
+    put_all(after, buffer, room);
+    memcpy(state_after, state, sizeof state_after);
+    want = law_take_scrap(state_after, after, room, scrap.at, scrap.n, &frame_after);
+    asked = functions[F_take_scrap].name;
+    for (turn = 0; turn < 3; turn++) {
+        enum place place = places[turn];
+        uint8_t *behind = arenas[0] + ARENA;
+        struct lent lent[PARTS];
+        struct call c = {.len = {scrap.n}, .room = room};
+        int64_t got;
+        lent[0] = lend(0, place, room, 1, buffer, &behind);
+        lent[1] = lend(1, place, scrap.n, 1, scrap.at, &behind);
+        lent[2] = lend(2, place, BARK_FRAME_STATE * sizeof *state, sizeof *state, (uint8_t *)state, &behind);
+        lent[3] = lend(3, place, sizeof *frame, sizeof *frame, (uint8_t *)frame, &behind);
+        if (place == TOGETHER)
+            memcpy(behind - CANARY, noise, CANARY);
+        c.out = lent[0].at;
+        c.in[0] = lent[1].at;
+        c.state = (size_t *)lent[2].at;
+        c.frame = (size_t *)lent[3].at;
+        got = functions[F_take_scrap].call(&c);
+        if (got < -BARK_OUTSIDE || got > (int64_t)scrap.n)
+            broken("an answer that is none", got, want, room);
+        if (got != want)
+            broken("another answer", got, want, room);
+        tally->calls[F_take_scrap][got < 0 ? -got : 0]++;
+        for (k = 0; k < BARK_FRAME_STATE; k++)
+            if (c.state[k] != state_after[k])
+                broken(got < 0 ? "another state after a refusal" : "another state", c.state[k], state_after[k], room);
+        if (*c.frame != frame_after)
+            broken("another frame's length", *c.frame, frame_after, room);
+        if (!same(c.out, after, room))
+            broken(got < 0 ? "a refused call changed the buffer" : "other bytes in the buffer", got, want, room);
+        if (!same(c.in[0], scrap.at, scrap.n))
+            broken("an input changed", got, want, room);
+        if (place == TOGETHER && !same(behind - CANARY, noise, CANARY))
+            broken("bytes before the lent parts changed", got, want, room);
+        for (k = 0; k < PARTS; k++)
+            give_back(lent[k]);
+    }
+    put_all(buffer, after, room);
+    memcpy(state, state_after, sizeof state_after);
+    *frame = frame_after;
+    return want;
 }
 
 /* ---- what is asked about, made from the input */
@@ -1349,6 +1405,94 @@ static void test_nested(void)
              "the first row is not the message's");
 }
 
+/* A frame, its data of no bytes, few, some hundreds or nearly the most: how long it is. */
+static size_t make_frame(struct pile *h)
+{
+    uint8_t b = take();
+    size_t n = b >= 253 ? 65533u + b % 3 : b >= 224 ? 200u + take() : b % 24u;
+    add_some(h, 2);
+    add(h, n, 2);
+    add_some(h, BARK_FRAME_HEADER - 4);
+    add_some(h, n);
+    return BARK_FRAME_HEADER + n;
+}
+
+static uint8_t stream[2 * MOST], frame_buffer[MOST];
+
+/* One call, of any state: mostly one that calls leave. The buffer then has the frame's first bytes, or now and then others. */
+static void test_scrap(void)
+{
+    static const size_t edges[16] = {0,     1,     2,     22,    23,    24,              25,              48,
+                                     65535, 65558, 65559, 65560, 65561, (size_t)1 << 32, (size_t)1 << 63, SIZE_MAX};
+    struct pile h = {stream, 0, sizeof stream};
+    uint8_t b = take(), c = take();
+    size_t length = make_frame(&h), held = b & 1 ? take() % BARK_FRAME_HEADER : c & 1 ? length - 1 - take() % length : take16() % length;
+    size_t state[BARK_FRAME_STATE] = {held, held < BARK_FRAME_HEADER ? 0 : length, held < BARK_FRAME_HEADER && (b & 0x0E) == 0};
+    size_t frame = take(), n, room = near(rooms & 0x20 ? length : held > 24 ? held : 24, rooms % 16);
+    add_some(&h, BARK_FRAME_HEADER + 60);
+    /* up to the header's end, up to the frame's, or any */
+    n = near((b & 0x10) && held < BARK_FRAME_HEADER ? BARK_FRAME_HEADER - held : length - held, c / 2 % 16);
+    if (b & 0x20)
+        n = take();
+    if (n > h.n - held)
+        n = h.n - held;
+    if (room > MOST)
+        room = MOST;
+    put_all(frame_buffer, noise + salt, room);
+    if (b >= 32)
+        put_all(frame_buffer, stream, held < room ? held : room);
+    if (c >= 224)
+        state[c % BARK_FRAME_STATE] = edges[take() % 16];
+    if (c >= 252)
+        state[BARK_FRAME_HELD] = edges[take() % 16];
+    ask_take_scrap(state, frame_buffer, room, part(stream + held, n), &frame);
+}
+
+/* A stream, cut at drawn places and driven call by call from a reset. What each call has to give is taken from the stream alone. */
+static void test_stream(void)
+{
+    static const uint8_t cuts[8] = {1, 2, 3, 7, 23, 24, 25, 49};
+    struct pile h = {stream, 0, MOST};
+    uint8_t b = take(), c = take();
+    size_t state[BARK_FRAME_STATE] = {b, c, 2}, longest = 0, at = 0, begin = 0, frame = 7, k, room, least;
+    for (k = c % 8; k > 0; k--) {
+        size_t length = make_frame(&h);
+        if (length > longest)
+            longest = length;
+    }
+    add_some(&h, b % 64); /* most often a frame that does not end */
+    room = near(longest > 24 ? longest : 24, rooms % 16);
+    if (room > MOST)
+        room = MOST;
+    least = (room > h.n ? room : h.n) / 16; /* long ones in few pieces */
+    put_all(frame_buffer, noise + salt, room);
+    bark_reset_frames(state);
+    while (at < h.n) {
+        size_t cut = c < 128 ? cuts[c / 8 % 8] : take() % 64;
+        int64_t got, want;
+        if (cut < least)
+            cut += least;
+        if (cut > h.n - at)
+            cut = h.n - at;
+        want = room < BARK_FRAME_HEADER ? -BARK_ROOM : law_frame(stream + begin, at + cut - begin, room);
+        got = ask_take_scrap(state, frame_buffer, room, part(stream + at, cut), &frame);
+        if (want < 0) {
+            need(got == want, "a frame too long is taken");
+            need(ask_take_scrap(state, frame_buffer, room, part(stream + at, cut / 2), &frame) == want, "once refused, and then taken");
+            bark_reset_frames(state);
+            begin = at += cut + 1; /* another stream, for all that a collector knows */
+        } else if (want > 0) {
+            need(got == (int64_t)(begin + want - at) && frame == (size_t)want && same(frame_buffer, stream + begin, want), "another frame");
+            need(state[BARK_FRAME_HELD] == 0 && state[BARK_FRAME_LENGTH] == 0, "a frame does not leave the state as a reset does");
+            begin = at += got;
+        } else {
+            need(got == (int64_t)cut && frame == 0, "a scrap is not taken whole");
+            at += cut;
+            need(state[BARK_FRAME_HELD] == at - begin && same(frame_buffer, stream + begin, at - begin), "other bytes are kept");
+        }
+    }
+}
+
 static void test(enum function f)
 {
     switch (f) {
@@ -1440,6 +1584,12 @@ static void test(enum function f)
         break;
     case F_read_nested:
         test_nested();
+        break;
+    case F_take_scrap:
+        if (take() & 1)
+            test_scrap();
+        else
+            test_stream();
         break;
     case COUNT:
         break;

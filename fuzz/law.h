@@ -1,6 +1,7 @@
-/* Document 01 once more, in C: what each function of the headers has to answer, and what it has to write or fill. It follows the document's text,
- * the headers and docs/DECISIONS.md; the default Forward Open and the words of a routing error, which the document leaves to the crate, are taken
- * from there. Room is not judged here: it comes last everywhere, and the driver judges it.
+/* Document 01 and the requests of document 02 that have landed, once more, in C: what each function of the headers has to answer, and what it has
+ * to write or fill. It follows the documents' text, the headers and docs/DECISIONS.md; the default Forward Open and the words of a routing error,
+ * which document 01 leaves to the crate, are taken from there. Room is not judged here, but for frames: it comes last everywhere else, and the
+ * driver judges it.
  */
 #ifndef LAW_H
 #define LAW_H
@@ -718,6 +719,54 @@ static int64_t law_nested(const uint8_t *s, size_t n, size_t depth, uint16_t *ro
         return law_nested(data + part[BARK_SEND_MESSAGE_START], part[BARK_SEND_MESSAGE_LENGTH], depth + 1, rows, at);
     }
     return at;
+}
+
+/* ---- frames */
+
+/* What is at the front of a stream of which n bytes have come, for a buffer of so many bytes: a frame's length, 0 where its end is still to
+ * come, or ROOM where it is too long. No state, no call: this is what any cutting has to give. */
+static int64_t law_frame(const uint8_t *stream, size_t n, size_t room)
+{
+    size_t length;
+    if (n < 24)
+        return 0;
+    length = 24 + low(stream + 2, 2);
+    return length > room ? -BARK_ROOM : n < length ? 0 : (int64_t)length;
+}
+
+/* Whether calls from a reset leave such a state, with some buffer. */
+static bool law_state_left(const size_t *state)
+{
+    size_t held = state[BARK_FRAME_HELD], length = state[BARK_FRAME_LENGTH], refused = state[BARK_FRAME_REFUSED];
+    if (held < 24)
+        return length == 0 && refused <= 1;
+    return held < length && length <= 24 + 65535 && refused == 0;
+}
+
+/* One call, of any state and any buffer: what it answers; state, buffer and *frame become what it has to leave. */
+static int64_t law_take_scrap(size_t *state, uint8_t *buffer, size_t room, const uint8_t *scrap, size_t n, size_t *frame)
+{
+    size_t held = state[BARK_FRAME_HELD], length = state[BARK_FRAME_LENGTH], taken = n;
+    if (!law_state_left(state))
+        return -BARK_OUTSIDE;
+    if (room < 24 || room < held || room < length || state[BARK_FRAME_REFUSED])
+        return -BARK_ROOM;
+    if (length == 0 && held + n >= 24) {
+        uint8_t header[24];
+        put_all(put_all(header, buffer, held), scrap, 24 - held);
+        length = 24 + low(header + 2, 2);
+    }
+    if (length > room) {
+        state[BARK_FRAME_REFUSED] = 1;
+        return -BARK_ROOM;
+    }
+    if (length > 0 && n > length - held)
+        taken = length - held;
+    put_all(buffer + held, scrap, taken);
+    *frame = length > 0 && held + taken == length ? length : 0;
+    state[BARK_FRAME_HELD] = *frame ? 0 : held + taken;
+    state[BARK_FRAME_LENGTH] = *frame ? 0 : length;
+    return taken;
 }
 
 #endif

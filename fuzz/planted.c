@@ -163,4 +163,47 @@ WRAP(read_replies, READER_TAKES)
         fields[BARK_REPLY_ROW_REPLY] = before;
     return a;
 }
+#else
+WRAP(take_scrap, size_t *state, uint8_t *buffer, size_t buffer_len, const uint8_t *scrap, size_t scrap_len, size_t *frame)
+{
+    size_t held = state[BARK_FRAME_HELD], was_refused = state[BARK_FRAME_REFUSED];
+    int64_t a;
+#if FAULT == 27 /* a frame is handed out a call late */
+    if (held >= BARK_FRAME_HEADER && held == state[BARK_FRAME_LENGTH]) {
+        *frame = held;
+        bark_reset_frames(state);
+        return 0;
+    }
+#elif FAULT == 30 /* once it is known, the length is read from the buffer again */
+    if (held >= BARK_FRAME_HEADER && held < state[BARK_FRAME_LENGTH] && held < buffer_len && state[BARK_FRAME_LENGTH] <= BARK_MAX_FRAME)
+        state[BARK_FRAME_LENGTH] = BARK_FRAME_HEADER + buffer[2] + 256u * buffer[3];
+#elif FAULT == 31 /* any number but 0 says refused */
+    if (was_refused > 1)
+        return -BARK_ROOM;
+#endif
+    a = REAL(take_scrap)(state, buffer, buffer_len, scrap, scrap_len, frame);
+    (void)was_refused;
+#if FAULT == 26 /* the rest of a scrap behind a frame is dropped */
+    if (a >= 0 && *frame != 0)
+        return scrap_len;
+#elif FAULT == 27
+    if (a >= 0 && *frame != 0) {
+        state[BARK_FRAME_HELD] = state[BARK_FRAME_LENGTH] = *frame;
+        *frame = 0;
+    }
+#elif FAULT == 28 /* a scrap's bytes are stored though its frame is refused */
+    if (a < 0 && state[BARK_FRAME_REFUSED] != was_refused)
+        buffer[held] = scrap[0];
+#elif FAULT == 29 /* a frame is refused, and the state does not say so */
+    if (a < 0)
+        state[BARK_FRAME_REFUSED] = was_refused;
+#elif FAULT == 32 /* a refused call says that there is no frame */
+    if (a < 0)
+        *frame = 0;
+#elif FAULT == 33 /* one byte behind what is stored */
+    if (a >= 0 && held + a < buffer_len)
+        buffer[held + a] = 0;
+#endif
+    return a;
+}
 #endif

@@ -10,7 +10,7 @@ cd "$out"
 clang -std=gnu11 -O2 -I"$here/../include" -fsanitize=address,undefined -fno-sanitize-recover=all -DSTANDALONE -c "$here/fuzz.c" -o driver.o
 planted=0
 found=0
-while [ $planted -lt 25 ]; do
+while [ $planted -lt 33 ]; do
     planted=$((planted + 1))
     case $planted in
     [1-9]) wraps=write_message ;;
@@ -24,6 +24,7 @@ while [ $planted -lt 25 ]; do
     23) wraps=write_body ;;
     24) wraps=read_forward_open_reply ;;
     25) wraps=read_replies ;;
+    *) wraps=take_scrap ;;
     esac
     flags=
     for name in $wraps; do flags="$flags -Wl,--wrap=bark_$name"; done

@@ -9,8 +9,8 @@ SALT = 5
 RAW = b"\0"  # what follows are the input's own bytes
 
 
-def seed(function, name, *parts):
-    head = bytes([NAMES.index(function), ROOMS, SALT])
+def seed(function, name, *parts, rooms=ROOMS):
+    head = bytes([NAMES.index(function), rooms, SALT])
     (HERE / "seeds" / f"{function}-{name}").write_bytes(head + b"".join(p if isinstance(p, bytes) else bytes.fromhex(p) for p in parts))
 
 
@@ -129,3 +129,19 @@ deep = bytes.fromhex("0E00")
 for _ in range(4):
     deep = bytes.fromhex("0A022002240101000400") + deep
 seed("read_nested", "too-deep", RAW, deep)
+
+
+def frame(*data):
+    """As the driver takes it: how many bytes of data, then header and data without the length, which it writes itself."""
+    return bytes([len(data), 0x6F, 0, *bytes(20), *data])
+
+
+# A stream: an even byte, bytes behind the last frame, how many frames and the size of the cuts.
+STREAM = frame() + frame(7) + frame(1, 2, 3, 4)
+seed("take_scrap", "byte-by-byte", "00 00 03", STREAM)
+seed("take_scrap", "cut-by-24", "00 00 2B", STREAM)
+seed("take_scrap", "cut-anywhere", "00 05 83", STREAM)
+seed("take_scrap", "too-long", "00 00 13", STREAM, rooms=0x40)
+# One call: an odd byte, two that say what it is like, a frame, what is held of it.
+seed("take_scrap", "frame-ends", "01 41 08", frame(1, 2, 3, 4), "05")
+seed("take_scrap", "no-such-state", "01 41 F0", frame(1, 2, 3, 4), "05")

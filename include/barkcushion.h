@@ -1,4 +1,5 @@
-/* Barkcushion for C: CIP messages, written and read. Link libbarkcushion.a. What holds for every function is said in barkcushion_path.h.
+/* Barkcushion for C: CIP messages, written and read. Link libbarkcushion.a. What holds for every function is said in barkcushion_path.h, but for
+ * one thing: bark_take_scrap may change the state that it is lent when it refuses, as is said there.
  *
  * A writer lays its bytes at the front of out and answers how many there are; it changes no byte behind them.
  * A reader fills the front of a lent run of numbers, fields, at the places named here, and answers how many numbers it filled; starts and
@@ -306,6 +307,45 @@ enum bark_row {
 /* Reads a message and all that it holds, a row of four numbers each, every message followed at once by those that it holds: how many rows.
  * Refused: what the readers of messages, bodies and Unconnected Sends refuse, DEPTH, then ROOM. */
 int64_t bark_read_nested(const uint8_t *s, size_t len, uint16_t *rows, size_t count);
+
+/* ---- frames: a stream, as TCP gives it, taken apart
+ *
+ * A frame is a header of 24 bytes and its data, whose length stands at the header's offset 2 in two bytes, low byte first. The stream comes in
+ * scraps, cut anywhere; each frame is handed out by the very call that brings its last byte.
+ *
+ * The state between two calls lies with the caller: a run of BARK_FRAME_STATE numbers. bark_reset_frames begins it, and from then on
+ * bark_take_scrap alone changes it. What came of a frame is kept at the front of the buffer, so the buffer is the same at each call, and its
+ * bytes are untouched between them.
+ */
+
+enum {
+    BARK_FRAME_HEADER = 24, /* bytes of a header; no buffer may have fewer */
+    BARK_MAX_FRAME = 65559  /* bytes of a frame; a buffer of so many holds every one */
+};
+
+enum bark_frame_state {
+    BARK_FRAME_HELD = 0,    /* bytes kept */
+    BARK_FRAME_LENGTH = 1,  /* length of their frame once the header is kept; 0 before */
+    BARK_FRAME_REFUSED = 2, /* 1 if a frame was too long for the buffer, else 0 */
+    BARK_FRAME_STATE = 3    /* numbers of a state */
+};
+
+/* The state before a stream's first byte, and after a refusal the way back: what was kept is forgotten. */
+static inline void bark_reset_frames(size_t *state)
+{
+    state[BARK_FRAME_HELD] = 0;
+    state[BARK_FRAME_LENGTH] = 0;
+    state[BARK_FRAME_REFUSED] = 0;
+}
+
+/* Takes the scrap up to a frame's end, or all of it where none comes: how many of its bytes were taken. *frame becomes the length of the frame
+ * that now lies at the front of buffer, 0 where there is none. A frame leaves the state as a reset does, and the next call writes over it: use
+ * it first, then give what is left of the scrap again. Only bytes that are taken are stored, and nothing else in the buffer changes. An empty
+ * scrap is taken and changes nothing.
+ * Refused, with *frame as it was: OUTSIDE a state that no calls from a reset leave; ROOM a buffer of fewer than 24 bytes, or than the state says
+ * are kept or the frame has; ROOM a state that says refused; ROOM a frame too long for the buffer, as soon as its header is whole. The last
+ * takes nothing and changes no byte of the buffer, but the state then says refused, so that every call is until a reset. */
+int64_t bark_take_scrap(size_t *state, uint8_t *buffer, size_t buffer_len, const uint8_t *scrap, size_t scrap_len, size_t *frame);
 
 #ifdef __cplusplus
 }

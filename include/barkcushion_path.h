@@ -29,7 +29,7 @@ enum bark_refusal {
     BARK_LEFTOVER = 8,  /* bytes are left over */
     BARK_DEPTH = 9,     /* a message is nested deeper than 3 */
     BARK_ENVELOPE = 10, /* an envelope that has not two items, or another type */
-    BARK_OUTSIDE = 11   /* a start, a length or an index lies outside what was lent */
+    BARK_OUTSIDE = 11   /* a start, a length or an index lies outside what was lent; a state that no calls leave */
 };
 
 /* ---- segments: four numbers each, at these places */

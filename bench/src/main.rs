@@ -49,21 +49,33 @@ fn only(op: &str, side: &str, calls: u64) {
 
 fn table(rounds: usize, calls: u64) {
     println!("{rounds} rounds; ns per call, median (minimum)\n");
-    println!("| operation | bytes | ours ns | crate ns | ours/crate | floor ns | within 3 x floor + 20 ns |");
+    println!("| operation | bytes | ours ns | crate ns | ours/crate | floor ns | within 3 x floor + 20 ns (frames: 2 x) |");
     println!("|---|---|---|---|---|---|---|");
-    let mut allocated = vec![];
-    for (_, name, set_up) in all() {
+    let (mut allocated, mut scraps) = (vec![], vec![]);
+    for (id, name, set_up) in all() {
         let mut o = set_up();
         let t = time::rounds(&mut o, rounds);
-        let limit = 3.0 * t.floor.median + 20.0;
-        let spare = limit - t.ours.median;
-        let within = if spare >= 0.0 { format!("yes, by {spare:.1}") } else { format!("no, over by {:.1}", -spare) };
+        let within = o.within.map_or("".into(), |times| {
+            let spare = times * t.floor.median + 20.0 - t.ours.median;
+            if spare >= 0.0 {
+                format!("yes, by {spare:.1}")
+            } else {
+                format!("no, over by {:.1}", -spare)
+            }
+        });
+        if id.starts_with("scraps-") {
+            scraps.push((o.bytes, t.ours.median));
+        }
         let (theirs, ratio) = match t.theirs {
             Some(c) => (c.to_string(), format!("{:.2} ({:.2})", t.ours.median / c.median, t.ours.min / c.min)),
             None => ("none".into(), "".into()),
         };
         println!("| {name} | {} | {} | {theirs} | {ratio} | {} | {within} |", o.bytes, t.ours, t.floor);
         allocated.push((name, counted(&mut o.ours, calls), o.theirs.as_mut().map(|c| counted(c, 1000))));
+    }
+    println!("\nScraps of one byte:");
+    for (n, ns) in &scraps {
+        println!("{n} in {ns:.0} ns, {:.2} ns each, {:.2} times those of {}", ns / *n as f64, ns / scraps[0].1, scraps[0].0);
     }
     println!("\n| operation | ours: allocations in {calls} calls | crate: allocations in a call |");
     println!("|---|---|---|");

@@ -6,6 +6,7 @@ use std::fmt::Debug;
 use std::hint::black_box;
 
 pub mod bodies;
+pub mod frames;
 pub mod paths;
 pub mod replies;
 pub mod requests;
@@ -24,13 +25,18 @@ pub struct Operation {
     pub theirs: Option<Side>,
     /// a copy of as many bytes
     pub floor: Side,
+    /// the goal: so many times the floor, and 20 ns; None where it is another
+    pub within: Option<f64>,
 }
+
+/// The goal of all that document 01 asks for.
+const WITHIN: Option<f64> = Some(3.0);
 
 /// Name for the command line, name for the table, and how it is set up.
 pub type Entry = (&'static str, &'static str, fn() -> Operation);
 
 pub fn all() -> Vec<Entry> {
-    [paths::ALL, requests::ALL, bodies::WRITES, replies::ALL, bodies::READS].concat()
+    [paths::ALL, requests::ALL, bodies::WRITES, replies::ALL, bodies::READS, frames::ALL].concat()
 }
 
 pub const ROOM: usize = 4096;
@@ -66,14 +72,14 @@ pub fn writer(mut ours: impl FnMut(&mut [u8]) -> Wrote<'_> + 'static, theirs: im
         theirs(black_box(&mut buf));
         black_box(&buf[..]);
     });
-    Operation { bytes: wrote.len(), floor: floor(&wrote), ours: our_writes(ours), theirs: Some(theirs) }
+    Operation { bytes: wrote.len(), floor: floor(&wrote), ours: our_writes(ours), theirs: Some(theirs), within: WITHIN }
 }
 
 /// The crate has none; `expected` is what has to be written.
 pub fn our_writer(mut ours: impl FnMut(&mut [u8]) -> Wrote<'_> + 'static, expected: &[u8]) -> Operation {
     let wrote = our_bytes(&mut ours);
     assert_eq!(wrote, expected, "our bytes and what has to be written");
-    Operation { bytes: wrote.len(), floor: floor(&wrote), ours: our_writes(ours), theirs: None }
+    Operation { bytes: wrote.len(), floor: floor(&wrote), ours: our_writes(ours), theirs: None, within: WITHIN }
 }
 
 fn our_bytes(ours: &mut impl FnMut(&mut [u8]) -> Wrote<'_>) -> Vec<u8> {
@@ -108,7 +114,7 @@ pub fn our_reader<T>(input: &[u8], mut ours: impl FnMut() -> T + 'static) -> Ope
     let ours = repeated(move || {
         black_box(ours());
     });
-    Operation { bytes: input.len(), floor: floor(input), ours, theirs: None }
+    Operation { bytes: input.len(), floor: floor(input), ours, theirs: None, within: WITHIN }
 }
 
 /// The crate's writer of a value that stands ready.

@@ -32,7 +32,7 @@ pub enum Error {
     Depth = 9,
     /// An envelope that has not two items, or another type.
     Envelope = 10,
-    /// A start, a length or an index lies outside what was lent.
+    /// A start, a length or an index lies outside what was lent; or a frame collector's state that no calls leave.
     Outside = 11,
 }
 

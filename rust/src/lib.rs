@@ -6,6 +6,7 @@ mod body;
 mod connection;
 mod envelope;
 mod error;
+mod frames;
 mod message;
 mod nested;
 mod path;
@@ -20,6 +21,7 @@ pub use connection::{
 };
 pub use envelope::Envelope;
 pub use error::{Error, Result};
+pub use frames::{FrameCollector, FrameState, Taken};
 pub use message::{Message, UnconnectedSend};
 pub use nested::{read_nested, Row, Rows};
 pub use path::{check_path, path_size, read_path, rows_size, write_path, write_rows, PathBuilder, Segment, Segments};
@@ -37,6 +39,10 @@ pub const MAX_PATH: usize = 254;
 pub const MAX_RECORD: usize = 65535;
 /// Bytes of application data, at most.
 pub const MAX_APP_DATA: usize = 510;
+/// Bytes of a frame's header.
+pub const FRAME_HEADER: usize = 24;
+/// Bytes of a frame, at most: its header and 65,535 of data.
+pub const MAX_FRAME: usize = 65559;
 /// Rows of a nested message, at most.
 pub const MAX_ROWS: usize = 16384;
 /// Numbers of a row, of a path's as of a nested message's.

@@ -157,6 +157,15 @@ extern "C" {
     ) -> i64;
 
     fn bark_read_nested(s: *const u8, len: usize, rows: *mut u16, count: usize) -> i64;
+
+    fn bark_take_scrap(
+        state: *mut usize,
+        buffer: *mut u8,
+        buffer_len: usize,
+        scrap: *const u8,
+        scrap_len: usize,
+        frame: *mut usize,
+    ) -> i64;
 }
 
 /// A size or a count, or below 0 a refusal.
@@ -500,6 +509,19 @@ pub(crate) fn join_bodies<'o>(first: &[u8], second: &[u8], out: &'o mut [u8]) ->
 pub(crate) fn read_nested(s: &[u8], rows: &mut [u16]) -> Result<usize> {
     // SAFETY: lent slices.
     answer(unsafe { bark_read_nested(s.as_ptr(), s.len(), rows.as_mut_ptr(), rows.len()) })
+}
+
+// ---- frames
+
+/// How many bytes of the scrap were taken, and the length of the frame at the buffer's front, or 0.
+#[inline]
+pub(crate) fn take_scrap(state: &mut [usize; 3], buffer: &mut [u8], scrap: &[u8]) -> Result<(usize, usize)> {
+    let mut frame = 0;
+    // SAFETY: lent slices; the state has the three numbers that the function takes it to have.
+    let n = unsafe {
+        bark_take_scrap(state.as_mut_ptr(), buffer.as_mut_ptr(), buffer.len(), scrap.as_ptr(), scrap.len(), &mut frame)
+    };
+    answer(n).map(|taken| (taken, frame))
 }
 
 // ---- a list

@@ -128,6 +128,11 @@ impl<'c> Case<'c> {
         let (has, words) = (self.flag(), self.u8());
         has.then_some(words)
     }
+
+    /// STATE.
+    pub fn frame_state(&mut self) -> FrameState {
+        FrameState { held: self.u32() as usize, length: self.u32() as usize, refused: self.flag() }
+    }
 }
 
 /// The fields of an accepted answer, behind its 00.
@@ -196,6 +201,11 @@ impl Fields {
         let fields = self.u8(f.service).status(f.status).u8(0);
         let fields = fields.triad(f.connection_serial_number, f.vendor_id, f.originator_serial_number);
         fields.u8(f.remaining.is_some().into()).u8(f.remaining.unwrap_or(0))
+    }
+
+    /// STATE.
+    pub fn frame_state(self, s: FrameState) -> Self {
+        self.count(s.held).count(s.length).u8(s.refused.into())
     }
 }
 

@@ -43,6 +43,7 @@ pub fn ask(case: &[u8]) -> Vec<Vec<u8>> {
                     rows.fold(fields, |f, r| f.u8(r.depth).u8(r.service).u16(r.path_bytes).u16(r.data_bytes))
                 }))
             }
+            0x50 => take_scrap(c),
             _ => panic!("no operation {op:02X} here"),
         }],
     };
@@ -267,4 +268,23 @@ fn reply_item_of(c: &mut Case) -> Vec<Vec<u8>> {
     let one = body.and_then(|body| body.reply(index));
     let among = read_replies(s, &mut rows).and_then(|mut all| all.nth(index).unwrap_or(Err(Error::Outside)));
     [one, among].map(|reply| read(reply.map(|r| header(s, &r)))).to_vec()
+}
+
+// ---- frames
+
+/// The state and the whole buffer stand in a refused answer too. Behind what is lent nothing may change either.
+fn take_scrap(c: &mut Case) -> Vec<u8> {
+    let state = c.frame_state();
+    let (buffer, scrap) = (c.bytes(), c.bytes());
+    let mut memory = [buffer, &[0xA5; 64]].concat();
+    let (lent, behind) = memory.split_at_mut(buffer.len());
+    let mut frames = FrameCollector::resume(lent, state);
+    let answer = read(frames.take(scrap).map(|taken| match taken {
+        Taken::All => accepted().count(scrap.len()).count(0),
+        Taken::Frame { frame, taken } => accepted().count(taken).count(frame.len()),
+    }));
+    let mut answer = Fields(answer).frame_state(frames.state()).0;
+    assert!(behind.iter().all(|b| *b == 0xA5), "changed behind what is lent");
+    answer.extend(&*lent);
+    answer
 }
