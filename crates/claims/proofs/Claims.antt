@@ -170,6 +170,8 @@ use Rattle.c_statuses.proofs.bark_is_routing_error
 use Rattle.c_statuses.proofs.Exact as CStatuses
 use Rattle.c_envelope.proofs.bark_read_envelope
 use Rattle.c_envelope.proofs.Exact as CEnvelope
+use Rattle.c_frames.proofs.bark_take_scrap
+use Rattle.c_frames.proofs.Exact as CFrames
 use Rattle.c_failure_numbers.proofs.failure_numbers
 use Rattle.c_failure_numbers.proofs.Exact as CFailureNumbers
 use Rattle.c_open_replies.proofs.bark_read_forward_open_reply
@@ -362,6 +364,8 @@ pub record Claims : Type 2 where
   pub bark-is-routing-error : Exact bark_is_routing_error.ended (λ _. bark_is_routing_error.clauses)
   -- c_envelope
   pub bark-read-envelope : Exact bark_read_envelope.ended (λ _. bark_read_envelope.clauses)
+  -- c_frames
+  pub bark-take-scrap : Exact bark_take_scrap.ended (λ _. bark_take_scrap.clauses)
   -- c_failure_numbers
   pub failure-numbers : Exact failure_numbers.ended (λ _. failure_numbers.clauses)
   -- c_open_replies
@@ -492,6 +496,7 @@ claims =
       status-of = CStatuses.status-of-exact;
       bark-is-routing-error = CStatuses.bark-is-routing-error-exact;
       bark-read-envelope = CEnvelope.bark-read-envelope-exact;
+      bark-take-scrap = CFrames.bark-take-scrap-exact;
       failure-numbers = CFailureNumbers.failure-numbers-exact;
       bark-read-forward-open-reply = COpenReplies.bark-read-forward-open-reply-exact;
       bark-read-forward-close-reply = CCloseReplies.bark-read-forward-close-reply-exact;
