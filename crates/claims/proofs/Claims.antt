@@ -108,6 +108,11 @@ use Rattle.reply_read.proofs.read_forward_close_reply
 use Rattle.reply_read.proofs.Exact as ReplyRead
 use Rattle.envelope.proofs.read_envelope
 use Rattle.envelope.proofs.Exact as Envelope
+use Rattle.frames.proofs.reset_state
+use Rattle.frames.proofs.step
+use Rattle.frames.proofs.take_scrap
+use Rattle.frames.proofs.reset
+use Rattle.frames.proofs.Exact as Frames
 use Rattle.body_sizes.proofs.body_size
 use Rattle.body_sizes.proofs.Exact as BodySizes
 use Rattle.body_encode.proofs.write_body
@@ -302,6 +307,11 @@ pub record Claims : Type 2 where
   pub read-forward-close-reply : Exact read_forward_close_reply.ended (λ _. read_forward_close_reply.clauses)
   -- envelope
   pub read-envelope : Exact read_envelope.ended (λ _. read_envelope.clauses)
+  -- frames
+  pub reset-state : Exact reset_state.ended (λ _. reset_state.clauses)
+  pub step : Exact step.ended (λ _. step.clauses)
+  pub take-scrap : Exact take_scrap.ended (λ _. take_scrap.clauses)
+  pub reset : Exact reset.ended (λ _. reset.clauses)
   -- body_sizes
   pub body-size : Exact body_size.ended (λ _. body_size.clauses)
   -- body_encode
@@ -458,6 +468,10 @@ claims =
       read-forward-open-reply = ReplyRead.read-forward-open-reply-exact;
       read-forward-close-reply = ReplyRead.read-forward-close-reply-exact;
       read-envelope = Envelope.read-envelope-exact;
+      reset-state = Frames.reset-state-exact;
+      step = Frames.step-exact;
+      take-scrap = Frames.take-scrap-exact;
+      reset = Frames.reset-exact;
       body-size = BodySizes.body-size-exact;
       write-body = BodyEncode.write-body-exact;
       read-body = BodyRead.read-body-exact;

@@ -216,3 +216,21 @@ pub fn step(state: FrameState, buffer: &mut [u8], scrap: &[u8]) -> Stepped
         Counted::Count(_length) => collect(state, buffer, scrap),
     }
 }
+
+// The same with the state lent, as a driver holds it.
+pub fn take_scrap(state: &mut FrameState, buffer: &mut [u8], scrap: &[u8]) -> Took
+    ensures answer { λ r. ⌜ paperTook r ≡ scrapAnswer (now (state .entry)) (now (buffer .entry)) (now (scrap .entry)) ⌝ }
+    ensures state { λ _. ⌜ now (state .exit) ≡ stateAfter (now (state .entry)) (now (buffer .entry)) (now (scrap .entry)) ⌝ }
+    ensures bytes { λ _. ⌜ now (buffer .exit) ≡ bufferAfter (now (state .entry)) (now (buffer .entry)) (now (scrap .entry)) ⌝ }
+{
+    let t = step(*state, buffer, scrap);
+    *state = t.state;
+    t.took
+}
+
+// The state before the first byte again: what was held is dropped, and a refusal forgotten.
+pub fn reset(state: &mut FrameState)
+    ensures { λ _. ⌜ now (state .exit) ≡ resetState ⌝ }
+{
+    *state = reset_state();
+}
