@@ -1,2 +1,7 @@
 pub mod CallLaws
 pub mod Exact
+pub mod Streams
+pub mod Holds
+pub mod States
+pub mod Cuts
+pub mod Reach

@@ -13,15 +13,15 @@ use Rattle.wire.specs.Numbers.{lowFirst, valueOf, Bytes}
 use Rattle.wire.specs.Answers.{Answer, done, refused, Rule, judged, KeepsAll}
 use Rattle.wire.proofs.Numbers.{below-or, value-low, low-bytes, bytes-part, bytes-drop}
 use Rattle.wire.proofs.Rules.{never, rule-kept, all-were}
 use Rattle.frames.specs.Frames.{headerSize, lengthAt, maxFrame, frameLength, Opening, noHeader, tooLong, begun, whole, openingOf, opening}
 use Rattle.frames.specs.Calls.{resetState, flag, stateRules, roomRules, admitted, since, lengthOf, brought, outcome, Handed, answerOf, stateOf, bufferOf, scrapAnswer, stateAfter, bufferAfter}
 use Rattle.frames.specs.declared.FrameState.{FrameState}
 use Rattle.frames.proofs.CallLaws.{zero-or, since-length, length-known, length-read, frame-some, opens-none, opens-long, opens-begun, few-kept, Open, many-kept, admitted-keeps, room-header, room-held, room-frame, room-refused, room-serves, admit-length, admit-refused, admit-whole, admit-longest}
-use Rattle.frames_theorems.specs.Drives.{Leaves, reset, call, Left}
-use Rattle.frames_theorems.proofs.Streams.{frame-most, frame-none, frame-zero, not-long, Kinds, is-none, is-long, is-begun, is-whole, kinds}
-use Rattle.frames_theorems.proofs.Holds.{few-keeps, many-keeps, Holds, reset-holds, call-state, Comes, keeps, hands, refuses, comes}
-use Rattle.frames_theorems.proofs.States.{Stuck, stuck-answer, stuck-state, stuck-buffer}
-use Rattle.frames_theorems.proofs.Cuts.{bytes-both}
+use Rattle.frames.specs.Drives.{Leaves, reset, call, Left}
+use Rattle.frames.proofs.Streams.{frame-most, frame-none, frame-zero, not-long, Kinds, is-none, is-long, is-begun, is-whole, kinds}
+use Rattle.frames.proofs.Holds.{few-keeps, many-keeps, Holds, reset-holds, call-state, Comes, keeps, hands, refuses, comes}
+use Rattle.frames.proofs.States.{Stuck, stuck-answer, stuck-state, stuck-buffer}
+use Rattle.frames.proofs.Cuts.{bytes-both}
 
 -- ---- stores keep bytes bytes
 bytes-set : (l : List ℕ) (i v : ℕ) → Bytes l → v < 256 → Bytes (set l i v)

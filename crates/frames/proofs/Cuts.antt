@@ -13,14 +13,14 @@ use Rattle.wire.specs.Answers.{Answer, done, refused}
 use Rattle.wire.proofs.Numbers.{below-or, bytes-drop}
 use Rattle.wire.proofs.Rules.{never}
 use Rattle.wire.proofs.Folds.{joined-append}
 use Rattle.frames.specs.Frames.{headerSize, frameLength, Opening, noHeader, tooLong, begun, whole, opening, framesOf, restOf}
 use Rattle.frames.specs.Calls.{resetState, Handed, all, frame, scrapAnswer, stateAfter, bufferAfter}
 use Rattle.frames.specs.declared.FrameState.{FrameState}
 use Rattle.frames.proofs.CallLaws.{frame-some, opens-long}
-use Rattle.frames_theorems.specs.Drives.{Driven, behind, gives, drive}
-use Rattle.frames_theorems.proofs.Streams.{frame-more, frame-zero, not-long, View, is-none, is-long, is-begun, is-whole, view, frames-stop, frames-go, frames-append, rest-append}
-use Rattle.frames_theorems.proofs.Holds.{Holds, reset-holds, holds-still, holds-fits, Comes, keeps, hands, refuses, comes}
-use Rattle.frames_theorems.proofs.States.{Stuck, stuck-answer, stuck-state, stuck-buffer, narrow-answer, narrow-state, narrow-buffer}
+use Rattle.frames.specs.Drives.{Driven, behind, gives, drive}
+use Rattle.frames.proofs.Streams.{frame-more, frame-zero, not-long, View, is-none, is-long, is-begun, is-whole, view, frames-stop, frames-go, frames-append, rest-append}
+use Rattle.frames.proofs.Holds.{Holds, reset-holds, holds-still, holds-fits, Comes, keeps, hands, refuses, comes}
+use Rattle.frames.proofs.States.{Stuck, stuck-answer, stuck-state, stuck-buffer, narrow-answer, narrow-state, narrow-buffer}
 
 -- ---- one scrap
 

@@ -10,11 +10,11 @@ use lib.Seq.{sets, sets-eq, length-sets, length-take-le, take-append-seam, drop-
 use borrow.Author.Tests.{lt-ltb, le-ltb}
 use Rattle.wire.specs.Numbers.{Bytes}
 use Rattle.wire.specs.Answers.{Answer, done, refused, under, over, other, KeepsAll}
 use Rattle.frames.specs.Frames.{headerSize, maxFrame, frameLength, Opening, noHeader, tooLong, begun, whole, openingOf, opening, framesOf, restOf}
 use Rattle.frames.specs.Calls.{resetState, flag, stateRules, roomRules, since, lengthOf, brought, outcome, Handed, all, frame, answerOf, stateOf, bufferOf, scrapAnswer, stateAfter, bufferAfter}
 use Rattle.frames.specs.declared.FrameState.{FrameState}
 use Rattle.frames.proofs.CallLaws.{zero-or, length-known, length-read, frame-some, Open, admitted-is}
-use Rattle.frames_theorems.proofs.Streams.{frame-more, frame-most, frame-none, frame-zero, not-long, View, is-none, is-long, is-begun, is-whole, view, frames-stop, frames-go}
+use Rattle.frames.proofs.Streams.{frame-more, frame-most, frame-none, frame-zero, not-long, View, is-none, is-long, is-begun, is-whole, view, frames-stop, frames-go}
 
 -- ---- states that keep the rules
 module _ (s : FrameState) where

@@ -8,11 +8,11 @@ use native.Mathlib.Omega.{arith}
 use lib.ListN.{length}
 use Rattle.wire.specs.Answers.{Answer, done, refused, judged, KeepsAll}
 use Rattle.wire.proofs.Numbers.{below-or}
 use Rattle.frames.specs.Frames.{headerSize, maxFrame, frameLength, Opening, noHeader, tooLong, begun, whole, opening}
 use Rattle.frames.specs.Calls.{resetState, flag, stateRules, roomRules, admitted, brought, outcome, Handed, answerOf, stateOf, bufferOf, scrapAnswer, stateAfter, bufferAfter}
 use Rattle.frames.specs.declared.FrameState.{FrameState}
 use Rattle.frames.proofs.CallLaws.{few-kept, many-kept, room-header, room-held, room-frame, room-refused, admit-few}
-use Rattle.frames_theorems.proofs.Holds.{few-keeps, many-keeps}
+use Rattle.frames.proofs.Holds.{few-keeps, many-keeps}
 
 -- refused: less than a header is held
 pub record Stuck (s : FrameState) : Type 0 where

@@ -1,5 +1,0 @@
-pub mod Streams
-pub mod Holds
-pub mod States
-pub mod Cuts
-pub mod Reach
