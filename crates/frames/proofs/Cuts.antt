@@ -70,7 +70,7 @@ gives-frames (suc k) room s buffer t c l h b = go (comes room s buffer t h c b) 
   where
     go : Comes room s buffer t h c b → ((u : FrameState) (d e : List ℕ) → length e ≤ k → Holds room u d [] → Bytes e → Gave room e (gives k u d e)) → Gave room (t ++ c) (gives (suc k) s buffer c)
     go (keeps a f r w) ih = rw (gives-all k s buffer c a) (record { frames = sym f; stands = rw r (held w) })
-    go (hands a m q p d f r w) ih =
+    go (hands a m q x p d f r w) ih =
         let n = frameLength (t ++ c) in
         let i = ih (stateAfter s buffer c) (bufferAfter s buffer c) (drop (n - s .held) c) (omega (arith, length-drop (n - s .held) c, h .held, length-append t c)) w (bytes-drop c (n - s .held) (bytes-behind t c b)) in
         rw (gives-frame k s buffer c n (n - s .held) a)
@@ -164,7 +164,7 @@ module _ (buffer : List ℕ) where
   narrow-drive [] h = refl
   narrow-drive (c ∷ cs) h = rw (narrow-gives (length c) c h) (narrow-drive cs h)
 
-  narrow-frames : (s : List ℕ) → length buffer < headerSize → framesOf (length buffer) s ≡ []
+  pub narrow-frames : (s : List ℕ) → length buffer < headerSize → framesOf (length buffer) s ≡ []
   narrow-frames s h = go (view (length buffer) s)
     where
       go : View (length buffer) s → framesOf (length buffer) s ≡ []
@@ -237,11 +237,11 @@ module _ (buffer : List ℕ) where
         go : Next c → AtOnce rest c (bufferAfter (after scraps .state) (after scraps .buffer) c) n m
         go (not e) = never (sym e ∙ a)
         go (comes-to w bt (keeps e f r v)) = never-handed n m (sym e ∙ a)
-        go (comes-to w bt (hands e l q p d f r v)) =
+        go (comes-to w bt (hands e l q x p d f r v)) =
             let u : done (frame n m) ≡ done (frame (frameLength (rest ++ c)) (frameLength (rest ++ c) - after scraps .state .held)) = sym a ∙ e in
-            let x : n ≡ frameLength (rest ++ c) = cc in
+            let z : n ≡ frameLength (rest ++ c) = cc in
             let y : m ≡ frameLength (rest ++ c) - after scraps .state .held = cc in
-            rw x (record { before = l; there = q; took = y ∙ rw (w .held); front = p })
+            rw z (record { before = l; there = q; took = y ∙ rw (w .held); front = p })
         go (comes-to w bt (refuses e z g f r v x)) = never (sym g ∙ a)
 
     -- and one that takes all of a scrap leaves no whole frame waiting
@@ -251,5 +251,5 @@ module _ (buffer : List ℕ) where
         go : Next c → framesOf (length buffer) (rest ++ c) ≡ []
         go (not e) = never (sym e ∙ a)
         go (comes-to w bt (keeps e f r v)) = f
-        go (comes-to w bt (hands e l q p d f r v)) = never-handed _ _ (sym a ∙ e)
+        go (comes-to w bt (hands e l q x p d f r v)) = never-handed _ _ (sym a ∙ e)
         go (comes-to w bt (refuses e z g f r v x)) = never (sym g ∙ a)

@@ -193,7 +193,7 @@ module _ (room : ℕ) (s : FrameState) (buffer t : List ℕ) (h : Holds room s b
   pub data Comes : Type 0 where
     keeps : scrapAnswer s buffer c ≡ done all → framesOf room (t ++ c) ≡ [] → restOf room (t ++ c) ≡ t ++ c
         → Holds room (stateAfter s buffer c) (bufferAfter s buffer c) (t ++ c) → Comes
-    hands : scrapAnswer s buffer c ≡ done (frame (frameLength (t ++ c)) (frameLength (t ++ c) - s .held)) → length t < frameLength (t ++ c) → frameLength (t ++ c) ≤ length (t ++ c)
+    hands : scrapAnswer s buffer c ≡ done (frame (frameLength (t ++ c)) (frameLength (t ++ c) - s .held)) → length t < frameLength (t ++ c) → frameLength (t ++ c) ≤ length (t ++ c) → frameLength (t ++ c) ≤ room
         → take (frameLength (t ++ c)) (bufferAfter s buffer c) ≡ take (frameLength (t ++ c)) (t ++ c)
         → drop (frameLength (t ++ c) - s .held) c ≡ drop (frameLength (t ++ c)) (t ++ c)
         → framesOf room (t ++ c) ≡ take (frameLength (t ++ c)) (t ++ c) ∷ framesOf room (drop (frameLength (t ++ c)) (t ++ c))
@@ -228,5 +228,5 @@ module _ (room : ℕ) (s : FrameState) (buffer t : List ℕ) (h : Holds room s b
       go (is-whole e f r l) =
           let n = frameLength (t ++ c) in
           let p = frames-go room (t ++ c) e f l in
-          hands (call-answer (whole n) e) (length-less f) l (rw (call-buffer (whole n) e) (whole-front l r f)) (whole-rest l r f) (p .0) (p .1)
+          hands (call-answer (whole n) e) (length-less f) l r (rw (call-buffer (whole n) e) (whole-front l r f)) (whole-rest l r f) (p .0) (p .1)
           (moved (whole n) [] e (reset-holds room (left (whole n)) (h .wide) (length-sets buffer (s .held) (take (n - s .held) c) ∙ h .size)))

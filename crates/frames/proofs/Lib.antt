@@ -5,3 +5,4 @@ pub mod Holds
 pub mod States
 pub mod Cuts
 pub mod Reach
+pub mod Taken

@@ -17,7 +17,7 @@ use Rattle.frames.specs.Frames.{headerSize, lengthAt, maxFrame, frameLen
 use Rattle.frames.specs.Calls.{resetState, flag, stateRules, roomRules, admitted, since, lengthOf, brought, outcome, Handed, answerOf, stateOf, bufferOf, scrapAnswer, stateAfter, bufferAfter}
 use Rattle.frames.specs.declared.FrameState.{FrameState}
 use Rattle.frames.proofs.CallLaws.{zero-or, since-length, length-known, length-read, frame-some, opens-none, opens-long, opens-begun, few-kept, Open, many-kept, admitted-keeps, room-header, room-held, room-frame, room-refused, room-serves, admit-length, admit-refused, admit-whole, admit-longest}
-use Rattle.frames.specs.Drives.{Leaves, reset, call, Left}
+use Rattle.frames.specs.Drives.{takenBy, handedBy, Called, reset, call, Left}
 use Rattle.frames.proofs.Streams.{frame-most, frame-none, frame-zero, not-long, Kinds, is-none, is-long, is-begun, is-whole, kinds}
 use Rattle.frames.proofs.Holds.{few-keeps, many-keeps, Holds, reset-holds, call-state, Comes, keeps, hands, refuses, comes}
 use Rattle.frames.proofs.States.{Stuck, stuck-answer, stuck-state, stuck-buffer}
@@ -113,9 +113,15 @@ module _ (s : FrameState) (ok : KeepsAll (stateRules s)) (buffer scrap : List �
       go (done (whole n)) = bytes-sets buffer (s .held) (take (n - s .held) scrap) p (bytes-part scrap 0 (n - s .held) q)
 
 -- so what calls leave is not 11
-pub left-sound : (s : FrameState) (buffer : List ℕ) → Leaves s buffer → KeepsAll (stateRules s) × Bytes buffer
-left-sound s buffer (reset b p) = (few-keeps resetState (omega arith) refl, p)
-left-sound s buffer (call t b c l q) = let w = left-sound t b l in (sound-after t (w .0) b c (w .1) q, bytes-after t (w .0) b c (w .1) q)
+left-sound : (s : FrameState) (buffer stream : List ℕ) (frames : List (List ℕ)) → Called s buffer stream frames → KeepsAll (stateRules s) × Bytes buffer
+left-sound s buffer stream frames (reset b p) = (few-keeps resetState (omega arith) refl, p)
+left-sound s buffer stream frames (call u b t fs c l q) = let w = left-sound u b t fs l in (sound-after u (w .0) b c (w .1) q, bytes-after u (w .0) b c (w .1) q)
+
+leaves : {s : FrameState} {buffer stream : List ℕ} {frames : List (List ℕ)} → Called s buffer stream frames → Left s
+leaves {s} {buffer} {stream} {frames} c = record { buffer = buffer; stream = stream; frames = frames; calls = c }
+
+left-keeps : (s : FrameState) → Left s → KeepsAll (stateRules s)
+left-keeps s l = left-sound s (l .buffer) (l .stream) (l .frames) (l .calls) .0
 
 -- ---- and each that is not 11 is left by calls: one that brings as many bytes, and for a refused one another that brings too long a frame
 
@@ -156,8 +162,8 @@ module _ (room : ℕ) (w : headerSize ≤ room) (c : List ℕ) (q : Bytes c) whe
   abbrev empty-holds : Holds room resetState blank []
   empty-holds = reset-holds room blank w (length-replicate room 0)
 
-  first : Leaves (stateAfter resetState blank c) (bufferAfter resetState blank c)
-  first = call resetState blank c (reset blank (zeros room)) q
+  first : Called (stateAfter resetState blank c) (bufferAfter resetState blank c) (takenBy (scrapAnswer resetState blank c) c) (handedBy (scrapAnswer resetState blank c) (bufferAfter resetState blank c))
+  first = call resetState blank [] [] c (reset blank (zeros room)) q
 
   -- less than a header
   first-few : length c < headerSize → stateAfter resetState blank c ≡ record { held = length c; length = 0; refused = false }
@@ -177,7 +183,7 @@ module _ (room : ℕ) (w : headerSize ≤ room) (c : List ℕ) (q : Bytes c) whe
     where
       go : Comes room resetState blank [] empty-holds c q → Holds room (stateAfter resetState blank c) (bufferAfter resetState blank c) c
       go (keeps a f r h) = h
-      go (hands a n g p d f r h) = absurd (omega (arith, frame-none c l))
+      go (hands a n g x p d f r h) = absurd (omega (arith, frame-none c l))
       go (refuses e z a f r u v) = absurd (not-long noHeader tt (sym (opens-none room (frameLength c) c (frame-none c l)) ∙ e))
 
 -- the header of a frame of 25 bytes, given in two, is too long for a buffer of 24
@@ -198,7 +204,7 @@ refused-left h l =
     let o : opening headerSize (c ++ d) ≡ tooLong
     = ap (opening headerSize) all ∙ ap (λ (m : ℕ). openingOf headerSize m long) f ∙ opens-long headerSize 25 long (λ z. omega arith) (omega arith) in
     let t = call-state headerSize s b c (first-holds headerSize w c q (omega arith)) d (rw all lb) tooLong o ∙ ap (λ (x : FrameState). record { held = x .held; length = x .length; refused = true }) e in
-    (bufferAfter s b d, rw t at (call s b d (first headerSize w c q) (bytes-drop long h lb)))
+    rw t at (leaves (call s b _ _ d (first headerSize w c q) (bytes-drop long h lb)))
 
 pub sound-left : (s : FrameState) → KeepsAll (stateRules s) → Left s
 sound-left s k = go (below-or (s .held) headerSize)
@@ -211,7 +217,7 @@ sound-left s k = go (below-or (s .held) headerSize)
         let w : headerSize ≤ headerSize = omega arith in
         let q : Bytes c = zeros (s .held) in
         let t = first-few headerSize w c q (omega arith) ∙ ap (λ (m : ℕ). record { held = m; length = 0; refused = false }) n ∙ state-is s (s .held) 0 false refl (few-kept s k h) e in
-        (bufferAfter resetState (blank headerSize w c q) c, rw t at (first headerSize w c q))
+        rw t at (leaves (first headerSize w c q))
 
     many : headerSize ≤ s .held → Open s → (r : Bool) → s .refused ≡ r → Left s
     many h o true e = absurd (omega (arith, sym (ap flag e) ∙ o .fine))
@@ -222,7 +228,7 @@ sound-left s k = go (below-or (s .held) headerSize)
         let q : Bytes c = lead-bytes (s .length - headerSize) (s .held) in
         let f : frameLength c ≡ s .length = lead-frame (s .length - headerSize) (s .held) h (omega (arith, o .most)) ∙ (let y : headerSize + (s .length - headerSize) ≡ s .length = omega arith in y) in
         let t = first-many (s .length) w c q (s .length) f (λ z. omega arith) (omega arith) (omega (arith, o .more)) ∙ ap (λ (m : ℕ). record { held = m; length = s .length; refused = false }) n ∙ state-is s (s .held) (s .length) false refl refl e in
-        (bufferAfter resetState (blank (s .length) w c q) c, rw t at (first (s .length) w c q))
+        rw t at (leaves (first (s .length) w c q))
 
     go : (s .held < headerSize) ⊎ (headerSize ≤ s .held) → Left s
     go (inl h) = few h (s .refused) refl
@@ -299,7 +305,7 @@ module _ (s : FrameState) (buffer scrap : List ℕ) where
 
   -- whatever the buffer and the scrap, 11 says that no calls from a reset leave the state, with any buffer; and where none do, it is said
   pub outside-exactly : (scrapAnswer s buffer scrap ≡ refused 11 → Left s → ⊥) × ((Left s → ⊥) → scrapAnswer s buffer scrap ≡ refused 11)
-  outside-exactly = (λ e l. not-eleven (left-sound s (l .0) (l .1) .0) e, λ f. go f sound-or)
+  outside-exactly = (λ e l. not-eleven (left-keeps s l) e, λ f. go f sound-or)
     where
       go : (Left s → ⊥) → KeepsAll (stateRules s) ⊎ (outcome s buffer scrap ≡ refused 11) → scrapAnswer s buffer scrap ≡ refused 11
       go f (inl k) = absurd (f (sound-left s k))
@@ -320,7 +326,7 @@ pub once-refused : (s : FrameState) → Left s → s .refused ≡ true → (buff
 once-refused s l e buffer scrap = (stuck-answer s u buffer scrap, (stuck-state s u buffer scrap, stuck-buffer s u buffer scrap))
   where
     k : KeepsAll (stateRules s)
-    k = left-sound s (l .0) (l .1) .0
+    k = left-keeps s l
 
     few : (s .held < headerSize) ⊎ (headerSize ≤ s .held) → s .held < headerSize
     few (inl h) = h

@@ -3,8 +3,8 @@ use Prim.Native.Nat.{ℕ, zero, suc}
 use mathlib.Core.List.{List, [], _∷_, _++_}
 use lib.ListN.{length, take, drop}
 use Rattle.wire.specs.Numbers.{Bytes}
-use Rattle.wire.specs.Answers.{done, refused}
-use Rattle.frames.specs.Calls.{resetState, all, frame, scrapAnswer, stateAfter, bufferAfter}
+use Rattle.wire.specs.Answers.{Answer, done, refused}
+use Rattle.frames.specs.Calls.{resetState, Handed, all, frame, scrapAnswer, stateAfter, bufferAfter}
 use Rattle.frames.specs.declared.FrameState.{FrameState}
 
 -- the state and the buffer as they stand, and the frames that were handed out, first to last
@@ -35,10 +35,29 @@ drive s buffer (scrap ∷ scraps) =
     let d : Driven = gives (length scrap) s buffer scrap in
     behind (d .handed) (drive (d .state) (d .buffer) scraps)
 
--- a state and a buffer that calls from a reset leave, over one buffer that holds bytes; and a state that some calls leave, over some buffer
-pub data Leaves : FrameState → List ℕ → Type 0 where
-  reset : (buffer : List ℕ) → Bytes buffer → Leaves resetState buffer
-  call : (s : FrameState) (buffer scrap : List ℕ) → Leaves s buffer → Bytes scrap → Leaves (stateAfter s buffer scrap) (bufferAfter s buffer scrap)
+-- ---- calls of any kind
 
-abbrev pub Left : FrameState → Type 0
-Left s = (buffer : List ℕ) × Leaves s buffer
+-- what a call took of its scrap, and the frame that it handed out
+abbrev pub takenBy : Answer Handed → List ℕ → List ℕ
+takenBy (refused k) scrap = []
+takenBy (done all) scrap = scrap
+takenBy (done (frame n m)) scrap = take m scrap
+
+abbrev pub handedBy : Answer Handed → List ℕ → List (List ℕ)
+handedBy (refused k) buffer = []
+handedBy (done all) buffer = []
+handedBy (done (frame n m)) buffer = take n buffer ∷ []
+
+-- calls from a reset over one buffer, each with whatever scrap: the state and the buffer that they leave, all the bytes that they took, end to end,
+-- and the frames that they handed out, first to last
+pub data Called : FrameState → List ℕ → List ℕ → List (List ℕ) → Type 0 where
+  reset : (buffer : List ℕ) → Bytes buffer → Called resetState buffer [] []
+  call : (s : FrameState) (buffer stream : List ℕ) (frames : List (List ℕ)) (scrap : List ℕ) → Called s buffer stream frames → Bytes scrap
+      → Called (stateAfter s buffer scrap) (bufferAfter s buffer scrap) (stream ++ takenBy (scrapAnswer s buffer scrap) scrap) (frames ++ handedBy (scrapAnswer s buffer scrap) (bufferAfter s buffer scrap))
+
+-- a state that some calls leave, over some buffer
+pub record Left (s : FrameState) : Type 0 where
+  pub buffer : List ℕ
+  pub stream : List ℕ
+  pub frames : List (List ℕ)
+  pub calls : Called s buffer stream frames
