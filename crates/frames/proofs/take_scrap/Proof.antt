@@ -117,11 +117,11 @@ module _ {M : Type 1} (𝓤 : URA M) (H : Heap 𝓤) (A : Atoms 𝓤) (W : Given
   Toks = ‵ (flft κ₁ q₁) ⊛ ‵ (flft κ₂ q₂) ⊛ ‵ ftrue
 
   -- what `step` ensures, clause by clause
-  abbrev Answers : Stepped → Type 0
-  Answers r = paperTook (r .took) ≡ scrapAnswer h (x .now) (y .now)
+  abbrev Answers : Took → Type 0
+  Answers k = paperTook k ≡ scrapAnswer h (x .now) (y .now)
 
-  abbrev Goes : Stepped → Type 0
-  Goes r = r .state ≡ stateAfter h (x .now) (y .now)
+  abbrev Goes : FrameState → Type 0
+  Goes s = s ≡ stateAfter h (x .now) (y .now)
 
   abbrev Leaves : List ℕ → Type 0
   Leaves zs = zs ≡ bufferAfter h (x .now) (y .now)
@@ -134,16 +134,16 @@ module _ {M : Type 1} (𝓤 : URA M) (H : Heap 𝓤) (A : Atoms 𝓤) (W : Given
   goes g =
       qed W (Toks ∷ ‵ Lent ∷ ‵ (fsep Own ftrue) ∷ []) ∵ move ! (1 ∷ 2 ∷ []) $ fjoin ! $ owned ! R (Is R) (LL.makes T.the-type T′.the-plain 𝓤 H A) h _ g $ fjoin ! $ move ! (1 ∷ 0 ∷ []) $ join ! $ frame ! $ done !
 
-  exits : (r : Stepped) (zs : List ℕ) → Answers r → Goes r → Leaves zs → length zs ≡ length (x .now) → Is N.the-row (r .took) (mach-took (r .took) ∷ [])
-      → ent 𝓤 (⋆ 𝓤 H A (‵ (fobs γ (R .coded .code (r .state))) ∷ ‵ (fbor κ (Body (mem R) b o γ)) ∷ ‵ (flft κ q) ∷ Toks ∷ ‵ (finally u8 (x .name) zs) ∷ ‵ Own ∷ [])) (Post (mach-took (r .took)))
-  exits r zs e₀ e₁ e₂ l is =
-      qed W (‵ (fobs γ (R .coded .code (r .state))) ∷ ‵ (fbor κ (Body (mem R) b o γ)) ∷ ‵ (flft κ q) ∷ Toks ∷ ‵ (finally u8 (x .name) zs) ∷ ‵ Own ∷ []) ∵
-      suffices ! _ (ends-at 𝓤 H A f.ended stayed (f.clauses 𝓤 H A at-mem run) W (((κ, (κ₁, (κ₂, tt))), (q, (q₁, (q₂, tt))), tt, a, vals), tt) (mach-took (r .took)) (r .took) (r .state, (zs, (tt, tt))) (tt, (l, (tt, tt)))) $
+  exits : (k : Took) (s : FrameState) (zs : List ℕ) → Answers k → Goes s → Leaves zs → length zs ≡ length (x .now) → Is N.the-row k (mach-took k ∷ [])
+      → ent 𝓤 (⋆ 𝓤 H A (‵ (fobs γ (R .coded .code s)) ∷ ‵ (fbor κ (Body (mem R) b o γ)) ∷ ‵ (flft κ q) ∷ Toks ∷ ‵ (finally u8 (x .name) zs) ∷ ‵ Own ∷ [])) (Post (mach-took k))
+  exits k s zs e₀ e₁ e₂ l is =
+      qed W (‵ (fobs γ (R .coded .code s)) ∷ ‵ (fbor κ (Body (mem R) b o γ)) ∷ ‵ (flft κ q) ∷ Toks ∷ ‵ (finally u8 (x .name) zs) ∷ ‵ Own ∷ []) ∵
+      suffices ! _ (ends-at 𝓤 H A f.ended stayed (f.clauses 𝓤 H A at-mem run) W (((κ, (κ₁, (κ₂, tt))), (q, (q₁, (q₂, tt))), tt, a, vals), tt) (mach-took k) k (s, (zs, (tt, tt))) (tt, (l, (tt, tt)))) $
       suffices ! _ (told 𝓤 e₀ e₁ e₂) $
       move ! (2 ∷ 3 ∷ []) $ join ! $ frame ! $ feqI ! (List Val) (vptr b o ∷ []) (vptr b o ∷ []) refl $ fjoin3 ! $
       -- [what the state's borrow owns; the buffer's last list; what the scrap owns]
       nothing ! $ move ! (3 ∷ 0 ∷ []) $ fjoin ! $ move ! (2 ∷ 0 ∷ []) $ fjoin ! $ move ! (1 ∷ 0 ∷ []) $ fjoin ! $
-      owned ! N.the-row (Is N.the-row) (EL.makes N.the-type N′.the-plain 𝓤 H A) (r .took) _ is $ move ! (1 ∷ 0 ∷ []) $ done !
+      owned ! N.the-row (Is N.the-row) (EL.makes N.the-type N′.the-plain 𝓤 H A) k _ is $ move ! (1 ∷ 0 ∷ []) $ done !
 
   module _ (C : Calls 𝓤 H) (Λ : Loops 𝓤 H) (fm : FmC 𝓤 H (W .laws) C) (known : Triple 𝓤 (C #frames·step) (StepC 𝓤 H A at-mem run)) where
     walk : Room u8 (length (x .now)) → Room u8 (length (y .now)) → ent 𝓤 (onEntry 𝓤 H A f.signature (κ, (κ₁, (κ₂, tt))) (q, (q₁, (q₂, tt))) a vals) (WpFn 𝓤 H C Λ code.function (vptr b o ∷ vx ∷ vy ∷ []) Post)
@@ -165,8 +165,8 @@ module _ {M : Type 1} (𝓤 : URA M) (H : Heap 𝓤) (A : Atoms 𝓤) (W : Given
         -- [what `step` asks; what the scrap owns; the state's cell; what it owns; the open borrow; obs; auth; _7; …]
         calls-at ! fm (StepC 𝓤 H A at-mem run) known to (and-then ! (load ! (from ! (stop !)) (look ! 11 refl)) (and-then ! (load ! (from ! (stop !)) (look ! 7 refl)) (and-then ! (load ! (from ! (stop !)) (look ! 15 refl)) (no-more !)))) (λ u.
         use1 W (later (some (λ (r : Stepped). (Toks ⊛ ‵ (P.the-row .own r (u ∷ []))) ⊛ raw (ensured 𝓤 H A step.ended (step.clauses 𝓤 H A at-mem run) (κ₁, (κ₂, tt)) (h, (x, (y, tt))) tt r)))) (id⊢ 𝓤 _) $ await ! tt $ pick ! (λ r.
-        split ! $ move ! (1 ∷ []) $ use1 W (some (λ (zs : Unit {0} × (List ℕ × (Unit {0} × Unit {0}))). ‵ (lasts step.ended (κ₁, (κ₂, tt)) (h, (x, (y, tt))) zs) ⊛ raw (fact 𝓤 (Answers r)) ⊛ raw (fact 𝓤 (Goes r)) ⊛ raw (fact 𝓤 (Leaves (zs .1 .0))))) (id⊢ 𝓤 _) $ pick ! (λ zs.
-        split ! $ move ! (1 ∷ []) $ split ! $ heard ! (Answers r) (λ e₀. split ! $ heard ! (Goes r) (λ e₁. heard ! (Leaves (zs .1 .0)) (λ e₂.
+        split ! $ move ! (1 ∷ []) $ use1 W (some (λ (zs : Unit {0} × (List ℕ × (Unit {0} × Unit {0}))). ‵ (lasts step.ended (κ₁, (κ₂, tt)) (h, (x, (y, tt))) zs) ⊛ raw (fact 𝓤 (Answers (r .took))) ⊛ raw (fact 𝓤 (Goes (r .state))) ⊛ raw (fact 𝓤 (Leaves (zs .1 .0))))) (id⊢ 𝓤 _) $ pick ! (λ zs.
+        split ! $ move ! (1 ∷ []) $ split ! $ heard ! (Answers (r .took)) (λ e₀. split ! $ heard ! (Goes (r .state)) (λ e₁. heard ! (Leaves (zs .1 .0)) (λ e₂.
         fsplit ! $ drop ! $ fsplit ! $ fsplit ! $ move ! (1 ∷ []) $ feqL ! (λ l.
         -- [the last list; true; the tokens and the result; what the scrap owns; the state's cell; …]
         move ! (2 ∷ []) $ split ! $ move ! (1 ∷ []) $ peeks ! P.the-row (Is P.the-row) (shows 𝓤 H A P.the-row) r (u ∷ []) (λ is.
@@ -180,7 +180,7 @@ module _ {M : Type 1} (𝓤 : URA M) (H : Heap 𝓤) (A : Atoms 𝓤) (W : Given
         -- [obs; the borrow; its token; the result; the tokens; the last list; true; what the scrap owns; what the state owned; _7; …]
         returns ! (look ! 23 refl) $ forget ! 9 refl $ forget ! 11 refl $ forget ! 13 refl $ forget ! 15 refl $ forget ! 17 refl $ forget ! 19 refl $ forget ! 21 refl $ forget ! 23 refl $
         move ! (23 ∷ 24 ∷ []) $ free1 ! $ move ! (21 ∷ 22 ∷ []) $ free1 ! $ move ! (19 ∷ 20 ∷ []) $ free1 ! $ move ! (17 ∷ 18 ∷ []) $ free1 ! $ move ! (15 ∷ 16 ∷ []) $ free1 ! $ move ! (13 ∷ 14 ∷ []) $ free1 ! $ move ! (11 ∷ 12 ∷ []) $ free1 ! $ move ! (9 ∷ 10 ∷ []) $ free1 ! $ free0 ! $
-        keep ! (0 ∷ 1 ∷ 2 ∷ 4 ∷ 5 ∷ 7 ∷ []) $ by ! (exits r (zs .1 .0) e₀ e₁ e₂ l (fields .1 .0))))))))))))))))))))
+        keep ! (0 ∷ 1 ∷ 2 ∷ 4 ∷ 5 ∷ 7 ∷ []) $ by ! (exits (r .took) (r .state) (zs .1 .0) e₀ e₁ e₂ l (fields .1 .0))))))))))))))))))))
 
 module _ {M : Type 1} (𝓤 : URA M) (H : Heap 𝓤) (A : Atoms 𝓤) (W : Given 𝓤 H A) (at-mem : Memory → SProp 𝓤) (run : Routine → Fun 𝓤) where
   walks : (C : Calls 𝓤 H) (Λ : Loops 𝓤 H) → FmC 𝓤 H (W .laws) C → Triple 𝓤 (C #frames·step) (StepC 𝓤 H A at-mem run) → Walks 𝓤 H A f.ended stayed (WpFn 𝓤 H C Λ code.function) (f.clauses 𝓤 H A at-mem run)
