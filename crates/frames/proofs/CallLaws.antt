@@ -19,7 +19,8 @@ use Rattle.wire.specs.declared.Counted.the-variants.{Count, Refused as NotCount
 use Rattle.wire.proofs.Rules.{rules, all-keep, all-were, same-refusal}
 use Rattle.wire.proofs.Numbers.{value-two, below-or}
 use Rattle.frames.specs.Frames.{headerSize, lengthAt, maxFrame, frameLength, Opening, noHeader, tooLong, begun, whole, openingOf}
-use Rattle.frames.specs.Calls.{resetState, flag, stateRules, roomRules, admitted, Serves, since, lengthOf, brought, outcome, Handed, frame, answerOf, stateOf, bufferOf, scrapAnswer, stateAfter, bufferAfter, paperTook}
+use Rattle.frames.specs.Conditions.{Serves}
+use Rattle.frames.specs.Calls.{resetState, flag, stateRules, roomRules, admitted, since, lengthOf, brought, outcome, Handed, frame, answerOf, stateOf, bufferOf, scrapAnswer, stateAfter, bufferAfter, paperTook}
 use Rattle.frames.specs.declared.FrameState.{FrameState}
 use Rattle.frames.specs.declared.Stepped.{Stepped}
 use Rattle.frames.specs.declared.Took.the-variants.{All}

@@ -1,6 +1,5 @@
 -- What a call of the collector answers and leaves, executable; rules and numbers from document 02, Wish 1. Assumes nothing: these are definitions.
-use Prim.Native.Nat.{ℕ, _+_, _-_, _≤_, _<_}
-use mathlib.Core.Path.{_≡_}
+use Prim.Native.Nat.{ℕ, _+_, _-_}
 use mathlib.Core.List.{List, [], _∷_, _++_}
 use mathlib.Core.Bool.{Bool, true, false}
 use lib.ListN.{length, take}
@@ -35,12 +34,6 @@ roomRules s room = under room headerSize 2 ∷ under room (s .held) 2 ∷ under 
 
 abbrev pub admitted : {A : Type 0} → FrameState → ℕ → Answer A → Answer A
 admitted s room y = judged (stateRules s ++ roomRules s room) y
-
--- a state and a buffer that serve; the code's own condition
-pub record Serves (s : FrameState) (room : ℕ) : Type 0 where
-  pub kept : s .held ≤ room
-  pub headless : s .length ≡ 0 → s .held < headerSize
-  pub known : (s .length ≡ 0 → ⊥) → s .held < s .length
 
 -- the bytes since the last frame's end: those that are kept, then the scrap's
 abbrev pub since : ℕ → List ℕ → List ℕ → List ℕ

@@ -38,8 +38,8 @@ openingOf room n s = pick (eqb n 0) noHeader (pick (ltb room n) tooLong (pick (l
 abbrev pub opening : ℕ → List ℕ → Opening
 opening room s = openingOf room (frameLength s) s
 
--- the whole frames of a stream, first to last, up to the first that is too long; what stands behind them; and whether that is too long.
--- No stream has more frames than bytes, so its length bounds the count
+-- the whole frames of a stream, first to last, up to the first that is too long. No stream has more frames than bytes, so its length bounds the
+-- count
 abbrev pub framesIn : ℕ → ℕ → List ℕ → List (List ℕ)
 framesIn zero room s = []
 framesIn (suc k) room s = elim (opening room s) [ noHeader ↦ [] | tooLong ↦ [] | begun n ↦ [] | whole n ↦ take n s ∷ framesIn k room (drop n s) ]
@@ -47,6 +47,7 @@ framesIn (suc k) room s = elim (opening room s) [ noHeader ↦ [] | tooLong ↦ 
 unfoldable pub framesOf : ℕ → List ℕ → List (List ℕ)
 framesOf room s = framesIn (length s) room s
 
+-- what stands behind them
 abbrev pub restIn : ℕ → ℕ → List ℕ → List ℕ
 restIn zero room s = s
 restIn (suc k) room s = elim (opening room s) [ noHeader ↦ s | tooLong ↦ s | begun n ↦ s | whole n ↦ restIn k room (drop n s) ]

@@ -11,7 +11,8 @@ ghost use mathlib.Core.Bool.{false};
 ghost use lib.ListN.{length, getD};
 ghost use Rattle.wire.specs.Answers.{done, paperCount, judged};
 ghost use Rattle.frames.specs.Frames.{headerSize, frameLength};
-ghost use Rattle.frames.specs.Calls.{resetState, roomRules, admitted, Serves, since, lengthOf, brought, answerOf, stateOf, bufferOf, scrapAnswer, stateAfter, bufferAfter, paperTook};
+ghost use Rattle.frames.specs.Conditions.{Serves};
+ghost use Rattle.frames.specs.Calls.{resetState, roomRules, admitted, since, lengthOf, brought, answerOf, stateOf, bufferOf, scrapAnswer, stateAfter, bufferAfter, paperTook};
 
 // ---- numbers of Volume 2, each beside its twin in specs/Frames.antt
 
