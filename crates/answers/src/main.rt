@@ -9,6 +9,7 @@ mod reply_reads; // reply_reads.rt: operations 20 to 22 and 26
 mod reply_writes; // reply_writes.rt: operations 23 to 25 and 27
 mod bodies; // bodies.rt: operations 30 to 34
 mod nests; // nests.rt: operation 40
+mod scraps; // scraps.rt: operation 50
 
 use lines::Case;
 use lines::Line;
@@ -16,7 +17,7 @@ use lines::Line;
 // Bytes of the longest case.
 const MAX_CASE: usize = lines::MAX_DIGITS / 2;
 
-// Bytes of the longest answer: the rows of the message that has most. The largest output, behind a byte and its size, is shorter.
+// Bytes of the longest answer: the rows of the message that has most. The largest output or buffer, with what stands before it, is shorter.
 const MAX_REPLY: usize = nests::MAX_ROWS_REPLY;
 
 const NEWLINE: u8 = 10;
@@ -56,6 +57,9 @@ fn ask(case: &[u8], reply: &mut [u8]) -> usize {
     }
     if op == 0x40 {
         return nests::ask(case, reply);
+    }
+    if op == 0x50 {
+        return scraps::ask(case, reply);
     }
     0
 }

@@ -10,8 +10,11 @@ ghost use Prim.Native.Nat.{_≤_};
 // What an output holds before it is lent, so that what is not written shows.
 const BLANK: u8 = 0xA5;
 
+// Bytes of a size, which a refusal has not.
+const SIZE: usize = 4;
+
 // Where a writer's output stands in its answer: behind the byte that accepts and the size.
-pub const OUT_AT: usize = 5;
+pub const OUT_AT: usize = 1 + SIZE;
 
 // Makes the output that ends there ready.
 pub(crate) fn fill(reply: &mut [u8], end: usize) {
@@ -20,11 +23,13 @@ pub(crate) fn fill(reply: &mut [u8], end: usize) {
     }
 }
 
-// Behind a refusal, which has no size, the output follows at once.
-fn move_down(reply: &mut [u8], end: usize) {
-    for i in OUT_AT..end {
+// Moves what stands from a place to an end so much to the front: before a refusal's output stands less than before another's.
+pub(crate) fn move_down(reply: &mut [u8], at: usize, end: usize, by: usize)
+    requires { ⌜ by ≤ at ⌝ }
+{
+    for i in at..end {
         let b = wire_read::byte_at(reply, i);
-        wire_write::put_byte(reply, i - 4, b);
+        wire_write::put_byte(reply, i - by, b);
     }
 }
 
@@ -78,9 +83,9 @@ pub(crate) fn wrote(w: Wrote, reply: &mut [u8], end: usize) -> usize
             end
         }
         Wrote::Refused(e) => {
-            move_down(reply, end);
+            move_down(reply, OUT_AT, end, SIZE);
             refused(e, reply);
-            end - 4
+            end - SIZE
         }
     }
 }

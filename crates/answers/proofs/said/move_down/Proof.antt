@@ -2,7 +2,7 @@
 --: use mathlib.Core.Path.{_≡_}
 --: use Prim.Native.Nat.{_-_, _≤_}
 --: use lib.ListN.{length}
---: Inv-loop = (length reply ≡ length reply₀) × (5 ≤ i)
+--: Inv-loop = (length reply ≡ length reply₀) × (at ≤ i)
 --: μ-loop = end - i
 use mathlib.Core.Path.{_≡_}
 use Prim.Native.Nat.{_-_, _≤_}
@@ -12,10 +12,10 @@ use borrow.Author.Needs.{needs}
 use Rattle.answers.proofs.said.move_down.Tie as tie
 
 abbrev Inv-loop : tie.InvT-loop
-Inv-loop reply₀ end i₀ reply i = (length reply ≡ length reply₀) × (5 ≤ i)
+Inv-loop reply₀ at end by i₀ reply i = (length reply ≡ length reply₀) × (at ≤ i)
 
 abbrev μ-loop : tie.MeasureT-loop
-μ-loop reply₀ end i₀ reply i = end - i
+μ-loop reply₀ at end by i₀ reply i = end - i
 
 loop-holds : tie.Need-loop-holds Inv-loop μ-loop
 loop-holds c = search needs
