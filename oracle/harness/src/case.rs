@@ -3,6 +3,7 @@
 
 pub mod bodies;
 pub mod fields;
+pub mod frames;
 pub mod nested;
 pub mod replies;
 pub mod requests;

@@ -7,6 +7,9 @@ pub mod bodies_reads;
 pub mod bodies_writes;
 pub mod damage;
 pub mod envelopes;
+pub mod frames;
+pub mod frames_drawn;
+pub mod frames_states;
 pub mod lines;
 pub mod nested;
 pub mod nested_depth;
@@ -90,12 +93,13 @@ pub fn fixed(to: &mut Sink) {
     nested_depth::fixed(to);
     nested_order::fixed(to);
     nested_limits::fixed(to);
+    frames::fixed(to);
     lines::fixed(to);
 }
 
 /// One draw: a case or a few that belong together.
 pub fn random(rng: &mut Rng, to: &mut Sink) {
-    match rng.below(248) {
+    match rng.below(252) {
         0..=16 => path_lists::random(rng, to),
         17..=43 => path_lists::random_segment(rng, to),
         44..=54 => path_reads::random(rng, to),
@@ -115,7 +119,10 @@ pub fn random(rng: &mut Rng, to: &mut Sink) {
         220..=223 => bodies_drawn::random_read(rng, to),
         224..=225 => bodies_drawn::random_refusal(rng, to),
         226..=241 => nested_drawn::random(rng, to),
-        _ => nested_drawn::random_read(rng, to),
+        242..=247 => nested_drawn::random_read(rng, to),
+        248..=249 => frames_drawn::random(rng, to),
+        250 => frames_drawn::random_state(rng, to),
+        _ => frames_drawn::random_damaged(rng, to),
     }
 }
 

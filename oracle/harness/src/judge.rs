@@ -1,9 +1,10 @@
 //! The judge: what every line must be answered where no Rust can say it. Written from document 01 (refusals, limits,
-//! layouts) and from docs/ANSWERS.md; where those two leave a point open, the comment names the entry
-//! of docs/DECISIONS.md. It shares no code with the cases, the crate's side or the program that is asked.
+//! layouts), for what came later from document 02, and from docs/ANSWERS.md; where those leave a point open, the comment
+//! names the entry of docs/DECISIONS.md. It shares no code with the cases, the crate's side or the program that is asked.
 //! This file has the lines and their fields; each group of operations has a file below it.
 
 mod bodies;
+mod frames;
 mod nested;
 mod paths;
 mod reader;
@@ -66,6 +67,7 @@ fn case(bytes: &[u8]) -> Option<Vec<u8>> {
         0x20..=0x27 => replies::case(op, &mut f),
         0x30..=0x34 => bodies::case(op, &mut f),
         0x40 => nested::case(&mut f),
+        0x50 => frames::case(&mut f),
         _ => None,
     }
 }

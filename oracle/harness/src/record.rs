@@ -9,6 +9,7 @@ mod crate_requests;
 mod our_bodies;
 mod our_body_reads;
 mod our_envelopes;
+mod our_frames;
 mod our_list;
 mod our_nested;
 mod our_replies;
@@ -48,6 +49,7 @@ const HEAD_2: &str = ": ours. No Rust gave these answers.
 # Rust String holds, an Unconnected Send of what is no message, the writers of replies, a failure that is told otherwise
 # than the crate decides, the envelope, failed items of a body, nested messages that are refused, and lines that are no
 # case. R1 to R7, E1 to E4 and B1 to B11 are rows of docs/DIFFERENCES.md.
+# Operation 50, the frame collector, is none of the crate's: the judge has it from document 02.
 ";
 
 /// The text of `stdin`, as it grows.

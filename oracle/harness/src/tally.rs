@@ -146,9 +146,9 @@ impl Tally {
 
 /// The operation of a line.
 fn operation(line: &[u8]) -> &'static str {
-    const KNOWN: [&str; 31] = [
+    const KNOWN: [&str; 32] = [
         "01", "02", "03", "04", "05", "06", "07", "10", "11", "12", "13", "14", "15", "18", "19", "1A", "1B", "20", "21", "22",
-        "23", "24", "25", "26", "27", "30", "31", "32", "33", "34", "40",
+        "23", "24", "25", "26", "27", "30", "31", "32", "33", "34", "40", "50",
     ];
     KNOWN.into_iter().find(|op| line.starts_with(op.as_bytes())).unwrap_or("none")
 }

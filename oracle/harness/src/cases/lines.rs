@@ -2,10 +2,12 @@
 //! inputs with lines that have none are in scripts.rs.
 
 use super::path_lists::{any_list, scattered};
-use super::{bodies, bodies_drawn, envelopes, nested, nested_drawn, replies, replies_drawn, requests, requests_drawn};
+use super::{bodies, bodies_drawn, envelopes, frames, frames_drawn, nested, nested_drawn};
+use super::{replies, replies_drawn, requests, requests_drawn};
 use super::{Case, Sink, Truth};
 use crate::ask_crate;
 use crate::case::bodies::{Ask, Items, Join};
+use crate::case::frames::{state, Call};
 use crate::case::nested::line as nested_line;
 use crate::case::replies::Reply;
 use crate::case::requests::{default_line, Record, Request};
@@ -50,6 +52,7 @@ pub fn good_lines() -> Vec<Vec<u8>> {
     v.extend([Ask::Count, Ask::Item(1), Ask::Reply(1)].map(|a| a.line(&bodies::TWO_WORDS)));
     v.push(Join { first: bodies::JOIN_FIRST.to_vec(), second: bodies::JOIN_SECOND.to_vec(), room: 12 }.line());
     v.push(nested_line(&nested::EXAMPLE));
+    v.push(Call { state: state(3, 0, 0), buffer: frames::header(2, 1), scrap: frames::frame(0, 1)[3..].to_vec() }.line());
     v
 }
 
@@ -180,7 +183,7 @@ pub fn random(rng: &mut Rng, to: &mut Sink) {
     plain.truncate(5);
     let (pool, list) = scattered(rng, &plain);
     let room = rng.below(50) as u32;
-    let line = match rng.below(6) {
+    let line = match rng.below(7) {
         0 => Writer { op: rng.pick(&[2, 4]), pool, list, room }.line(),
         1 | 2 => Request { head: requests_drawn::any_head(rng), pool, list, room }.line(),
         3 => {
@@ -195,6 +198,7 @@ pub fn random(rng: &mut Rng, to: &mut Sink) {
             }
         }
         4 => nested_line(&nested::wire(&nested_drawn::any_tree(rng, 3))),
+        5 => frames_drawn::any_call(rng).line(),
         _ => {
             let f = replies_drawn::any_forward(rng);
             match rng.below(4) {

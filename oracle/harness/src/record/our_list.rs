@@ -17,6 +17,7 @@ pub fn write(s: &mut Script) {
     super::our_envelopes::write(s);
     super::our_bodies::write(s);
     super::our_nested::write(s);
+    super::our_frames::write(s);
     no_case(s);
     freedoms(s);
 }
