@@ -27,8 +27,8 @@ fn data_of(k: usize) -> usize {
     777
 }
 
-// No place comes near its type's end; the sum wraps so that nothing has to be shown of it.
-fn plus(a: usize, b: usize) -> usize {
+// No place and no count comes near its type's end; the sums wrap so that nothing has to be shown of it.
+pub(crate) fn plus(a: usize, b: usize) -> usize {
     std::num::wrapping_add_usize(a, b)
 }
 

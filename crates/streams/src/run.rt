@@ -1,4 +1,5 @@
 // A driver: it holds the state, lends it with the buffer at each call, and gives what a frame left of a scrap again.
+use crate::make::plus;
 use frames::Frame;
 use frames::FrameState;
 use frames::Stepped;
@@ -42,11 +43,6 @@ pub(crate) fn lend_reset(state: FrameState) -> FrameState {
     let mut s = state;
     frames::reset(&mut s);
     s
-}
-
-// No count comes near its type's end; the sums wrap so that nothing has to be shown of it.
-fn plus(a: usize, b: usize) -> usize {
-    std::num::wrapping_add_usize(a, b)
 }
 
 fn mix(sum: usize, n: usize) -> usize {
