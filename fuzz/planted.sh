@@ -1,13 +1,23 @@
 #!/bin/sh
 # Plants each fault of planted.c in turn and says after how many executions the driver found it. sh fuzz/planted.sh [EXECUTIONS], from anywhere.
-# Needs clang and the archive, as run.sh does. The last line is `N planted, N found`.
+# Needs clang and the archive, as run.sh does; CC and RUN are as there, and so are the address checks that CC may not have. The last line is
+# `N planted, N found`.
 set -eu
 here=$(cd "$(dirname "$0")" && pwd)
 archive=$(realpath "${BARK_ARCHIVE:-$here/../target/staticlib/libbarkcushion.a}")
 out=${TMPDIR:-/tmp}/barkcushion-fuzz/planted
 mkdir -p "$out"
 cd "$out"
-clang -std=gnu11 -O2 -I"$here/../include" -fsanitize=address,undefined -fno-sanitize-recover=all -DSTANDALONE -c "$here/fuzz.c" -o driver.o
+cc=${CC:-clang}
+checks='-fsanitize=address,undefined -fno-sanitize-recover=all'
+echo 'int main(void) { return 0; }' >probe.c
+# shellcheck disable=SC2086
+if ! "$cc" $checks probe.c -o probe 2>/dev/null || ! ${RUN:-} ./probe; then
+    echo "no address checks in $cc: the pages that fault are all there is"
+    checks=
+fi
+# shellcheck disable=SC2086
+"$cc" -std=gnu11 -O2 -I"$here/../include" $checks -DSTANDALONE -c "$here/fuzz.c" -o driver.o
 planted=0
 found=0
 while [ $planted -lt 33 ]; do
@@ -28,11 +38,11 @@ while [ $planted -lt 33 ]; do
     esac
     flags=
     for name in $wraps; do flags="$flags -Wl,--wrap=bark_$name"; done
-    clang -std=gnu11 -O1 -I"$here/../include" -DFAULT="$planted" -c "$here/planted.c" -o fault.o
+    "$cc" -std=gnu11 -O1 -I"$here/../include" -DFAULT="$planted" -c "$here/planted.c" -o fault.o
     # shellcheck disable=SC2086
-    clang -fsanitize=address,undefined driver.o fault.o $flags ${FUZZ_EXTRA:-} "$archive" -o planted
+    "$cc" $checks driver.o fault.o $flags ${FUZZ_EXTRA:-} "$archive" -o planted
     rm -f crash-*
-    ./planted "${1:-1000000}" 1 >log 2>&1 || true
+    ${RUN:-} ./planted "${1:-1000000}" 1 >log 2>&1 || true
     first=$(find . -name 'crash-1-*' | sed 's/.*-//' | sort -n | head -n 1)
     if [ -n "$first" ]; then
         found=$((found + 1))
