@@ -29,7 +29,8 @@ use crate::sys;
 /// ```
 #[derive(Debug)]
 pub struct FrameCollector<'b> {
-    state: FrameState,
+    /// Held, length, refused: the three numbers that the archive takes.
+    state: [usize; 3],
     buffer: &'b mut [u8],
 }
 
@@ -95,7 +96,7 @@ impl<'b> FrameCollector<'b> {
     /// the same bytes.
     #[inline]
     pub fn resume(buffer: &'b mut [u8], state: FrameState) -> Self {
-        FrameCollector { state, buffer }
+        FrameCollector { state: [state.held, state.length, state.refused.into()], buffer }
     }
 
     /// Takes a scrap up to a frame's end, or all of it where none comes. Only bytes that are taken are stored.
@@ -119,11 +120,8 @@ impl<'b> FrameCollector<'b> {
     /// ```
     #[inline]
     pub fn take(&mut self, scrap: &[u8]) -> Result<Taken<'_>> {
-        let mut numbers = [self.state.held, self.state.length, self.state.refused.into()];
-        let taken = sys::take_scrap(&mut numbers, self.buffer, scrap);
-        let [held, length, refused] = numbers;
-        self.state = FrameState { held, length, refused: refused != 0 };
-        taken.map(|(taken, frame)| match frame {
+        let (taken, frame) = sys::take_scrap(&mut self.state, self.buffer, scrap)?;
+        Ok(match frame {
             0 => Taken::All,
             _ => Taken::Frame { frame: &self.buffer[..frame], taken },
         })
@@ -143,12 +141,13 @@ impl<'b> FrameCollector<'b> {
     /// Begins anew, for another stream: what came of a frame is forgotten.
     #[inline]
     pub fn reset(&mut self) {
-        self.state = FrameState::default();
+        self.state = [0; 3];
     }
 
     /// What is known between two calls. At a stream's end `state().held` is 0 where it ended behind a frame.
     #[inline]
     pub fn state(&self) -> FrameState {
-        self.state
+        let [held, length, refused] = self.state;
+        FrameState { held, length, refused: refused != 0 }
     }
 }

@@ -10,7 +10,7 @@ use std::collections::BTreeMap;
 use std::{fs, panic};
 
 /// How many cases of each operation were compared when this was written: fewer would mean that some have vanished.
-const FOUND: [(u8, usize); 27] = [
+const FOUND: [(u8, usize); 28] = [
     (0x02, 464),
     (0x04, 729),
     (0x05, 342),
@@ -38,6 +38,7 @@ const FOUND: [(u8, usize); 27] = [
     (0x33, 398),
     (0x34, 163),
     (0x40, 292),
+    (0x50, 1134),
 ];
 
 /// The lines of a recorded file on which something stands, with their numbers; no blanks, no comments.
