@@ -20,10 +20,10 @@ ghost use Rattle.frames.specs.Calls.{resetState, roomRules, admitted, si
 pub const HEADER: usize = 24;
 
 // Where the length of the data stands in it.
-const LENGTH_AT: usize = 2;
+pub const LENGTH_AT: usize = 2;
 
 // The most that the length can say.
-const MAX_DATA: usize = 65535;
+pub const MAX_DATA: usize = 65535;
 
 // Bytes of the longest frame: a buffer of so many takes every frame.
 pub const MAX_FRAME: usize = HEADER + MAX_DATA;

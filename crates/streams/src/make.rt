@@ -6,7 +6,7 @@ const LONG: usize = 50;
 // Bytes of data of frame k.
 fn data_of(k: usize) -> usize {
     if k == LONG {
-        return 65535;
+        return frames::MAX_DATA;
     }
     let m = k % 6;
     if m == 0 {
@@ -36,7 +36,7 @@ pub(crate) fn plus(a: usize, b: usize) -> usize {
 fn put_frame(out: &mut [u8], at: usize, k: usize) -> usize {
     let n = data_of(k);
     wire_write::put_u16(out, at, 0x6F);
-    wire_write::put_u16(out, plus(at, 2), (n % 65536) as u16);
+    wire_write::put_u16(out, plus(at, frames::LENGTH_AT), (n % 65536) as u16);
     plus(at, plus(frames::HEADER, n))
 }
 
