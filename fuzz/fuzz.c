@@ -1464,7 +1464,7 @@ static void test_stream(void)
     room = near(longest > 24 ? longest : 24, rooms % 16);
     if (room > MOST)
         room = MOST;
-    least = (room > h.n ? room : h.n) / 16; /* long ones in few pieces */
+    least = h.n < 512 && room < 512 ? 0 : (room > h.n ? room : h.n) / 16; /* long ones in few pieces */
     put_all(frame_buffer, noise + salt, room);
     bark_reset_frames(state);
     while (at < h.n) {

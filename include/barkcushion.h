@@ -1,5 +1,5 @@
 /* Barkcushion for C: CIP messages, written and read. Link libbarkcushion.a. What holds for every function is said in barkcushion_path.h, but for
- * one thing: bark_take_scrap may change the state that it is lent when it refuses, as is said there.
+ * one thing: bark_take_scrap may change the state that it is lent when it refuses, as is said at that function.
  *
  * A writer lays its bytes at the front of out and answers how many there are; it changes no byte behind them.
  * A reader fills the front of a lent run of numbers, fields, at the places named here, and answers how many numbers it filled; starts and
@@ -341,7 +341,7 @@ static inline void bark_reset_frames(size_t *state)
 /* Takes the scrap up to a frame's end, or all of it where none comes: how many of its bytes were taken. *frame becomes the length of the frame
  * that now lies at the front of buffer, 0 where there is none. A frame leaves the state as a reset does, and the next call writes over it: use
  * it first, then give what is left of the scrap again. Only bytes that are taken are stored, and nothing else in the buffer changes. An empty
- * scrap is taken and changes nothing.
+ * scrap is taken and changes neither state nor buffer.
  * Refused, with *frame as it was: OUTSIDE a state that no calls from a reset leave; ROOM a buffer of fewer than 24 bytes, or than the state says
  * are kept or the frame has; ROOM a state that says refused; ROOM a frame too long for the buffer, as soon as its header is whole. The last
  * takes nothing and changes no byte of the buffer, but the state then says refused, so that every call is until a reset. */

@@ -7,7 +7,7 @@ use lib.ListN.{length, getD}
 use borrow.Author.Tests.{lt-ltb, le-ltb}
 use Rattle.wire.specs.Choice.{pick}
 use Rattle.wire.specs.Refusals.{number}
-use Rattle.wire.specs.Answers.{Answer, done, refused}
+use Rattle.wire.specs.Answers.{Answer, refused}
 use Rattle.wire.specs.declared.Refusal.{Refusal}
 use Rattle.frames.specs.Calls.{flag, Handed, scrapAnswer, stateAfter, bufferAfter, paperTook}
 use Rattle.frames.specs.declared.FrameState.{FrameState}

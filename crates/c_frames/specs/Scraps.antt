@@ -21,16 +21,16 @@ stateIn run = record { held = getD run 0 0; length = getD run 1 0; refused = eqb
 abbrev pub saysNeither : List ℕ → Bool
 saysNeither run = ltb 1 (getD run 2 0)
 
--- how many bytes of a scrap of n were taken, and the length of the frame that lies there then: 0 where there is none, on a refusal as it was
+-- how many bytes of a scrap were taken, of all that it has, and the length of the frame that lies there then: 0 where there is none, on a refusal as it was
 abbrev pub takenOf : Answer Handed → ℕ → Answer ℕ
-takenOf (refused k) n = refused k
-takenOf (done all) n = done n
-takenOf (done (frame m k)) n = done k
+takenOf (refused k) size = refused k
+takenOf (done all) size = done size
+takenOf (done (frame n m)) size = done m
 
 abbrev pub frameTold : Answer Handed → ℕ → ℕ
 frameTold (refused k) old = old
 frameTold (done all) old = 0
-frameTold (done (frame m k)) old = m
+frameTold (done (frame n m)) old = n
 
 -- ---- a run, a lent buffer and a scrap: the answer, and what run, buffer and frame hold afterwards
 abbrev pub takenAnswer : List ℕ → List ℕ → List ℕ → Answer ℕ

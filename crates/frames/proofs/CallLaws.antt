@@ -8,7 +8,6 @@ use native.Mathlib.Omega.{arith}
 use lib.ListN.{length, getD, take, drop, length-append, List·getD-append}
 use lib.Seq.{sets, length-take-le, getD-append-add, getD-take}
 use borrow.Author.Tests.{lt-ltb, le-ltb, eq-eqb, ne-eqb}
-use Rattle.wire.specs.Choice.{pick}
 use Rattle.wire.specs.Numbers.{valueOf}
 use Rattle.wire.specs.Parts.{part}
 use Rattle.wire.specs.Refusals.{number}

@@ -1,24 +1,21 @@
--- However a stream is cut into scraps, the collector hands out its frames, each in the call that brings its last byte. Assumes nothing.
+-- However a stream is cut into scraps, the collector hands out its frames. Assumes nothing.
 use Prim.Native.Nat.{ℕ, zero, suc, _+_, _-_, _≤_, _<_}
 use mathlib.Core.Path.{_≡_, refl, sym, ap, _∙_}
 use mathlib.Core.List.{List, [], _∷_, _++_, append-assoc, append-nil}
 use mathlib.Core.Bool.{true, false, true≢false}
 use mathlib.Core.Logic.{_⊎_, inl, inr}
 use native.Mathlib.Omega.{arith}
-use lib.ListN.{length, take, drop, length-append, length-drop, getD}
-use lib.Seq.{getD-append-add, getD-drop}
+use lib.ListN.{length, take, drop, length-append, length-drop}
 use Rattle.wire.specs.Numbers.{Bytes}
 use Rattle.wire.specs.Folds.{joined}
-use Rattle.wire.specs.Answers.{Answer, done, refused}
+use Rattle.wire.specs.Answers.{done, refused}
 use Rattle.wire.proofs.Numbers.{below-or, bytes-drop}
-use Rattle.wire.proofs.Rules.{never}
-use Rattle.wire.proofs.Folds.{joined-append}
-use Rattle.frames.specs.Frames.{headerSize, frameLength, Opening, noHeader, tooLong, begun, whole, opening, framesOf, restOf}
-use Rattle.frames.specs.Calls.{resetState, Handed, all, frame, scrapAnswer, stateAfter, bufferAfter}
+use Rattle.frames.specs.Frames.{headerSize, frameLength, noHeader, tooLong, begun, whole, opening, framesOf, restOf}
+use Rattle.frames.specs.Calls.{resetState, all, frame, scrapAnswer, stateAfter, bufferAfter}
 use Rattle.frames.specs.declared.FrameState.{FrameState}
 use Rattle.frames.proofs.CallLaws.{frame-some, opens-long}
 use Rattle.frames.specs.Drives.{Driven, behind, gives, drive}
-use Rattle.frames.proofs.Streams.{frame-more, frame-zero, not-long, View, is-none, is-long, is-begun, is-whole, view, frames-stop, frames-go, frames-append, rest-append}
+use Rattle.frames.proofs.Streams.{frame-more, frame-zero, not-long, View, is-none, is-long, is-begun, is-whole, view, frames-stop, frames-append, rest-append}
 use Rattle.frames.proofs.Holds.{Holds, reset-holds, holds-still, holds-fits, Comes, keeps, hands, refuses, comes}
 use Rattle.frames.proofs.States.{Stuck, stuck-answer, stuck-state, stuck-buffer, narrow-answer, narrow-state, narrow-buffer}
 
@@ -124,9 +121,6 @@ module _ (room : ℕ) where
       rw (sym (append-assoc r c (joined (λ x. x) cs)))
       (record { frames = simp (g .frames, i .frames, a); stands = rw q (i .stands) })
 
-never-handed : {B : Type 0} (n m : ℕ) → done all ≡ done (frame n m) → B
-never-handed n m h = absurd (let z : _≡_ {A = ℕ} 0 1 = cc in omega arith)
-
 -- what is handed out during the first scraps comes first
 pub drive-append : (s : FrameState) (buffer : List ℕ) (one other : List (List ℕ))
     → drive s buffer (one ++ other) ≡ behind (drive s buffer one .handed) (drive (drive s buffer one .state) (drive s buffer one .buffer) other)
@@ -136,13 +130,6 @@ drive-append s buffer (c ∷ one) other =
     ap (behind (d .handed)) (drive-append (d .state) (d .buffer) one other)
     ∙ ap (λ (fs : List (List ℕ)). record { state = drive (drive s buffer (c ∷ one) .state) (drive s buffer (c ∷ one) .buffer) other .state; buffer = drive (drive s buffer (c ∷ one) .state) (drive s buffer (c ∷ one) .buffer) other .buffer; handed = fs })
     (sym (append-assoc (d .handed) (drive (d .state) (d .buffer) one .handed) (drive (drive (d .state) (d .buffer) one .state) (drive (d .state) (d .buffer) one .buffer) other .handed)))
-
--- a frame of n bytes, of a stream that had r since the last one's end: c brings its last byte, and m is how many bytes of c it wanted
-pub record AtOnce (r c buffer : List ℕ) (n m : ℕ) : Type 0 where
-  pub before : length r < n
-  pub there : n ≤ length (r ++ c)
-  pub took : m ≡ n - length r
-  pub front : take n buffer ≡ take n (r ++ c)
 
 -- ---- the theorems: from a reset, over one buffer, whatever its length
 module _ (buffer : List ℕ) where
@@ -209,47 +196,3 @@ module _ (buffer : List ℕ) where
             → (after scraps .state .refused ≡ true → opening (length buffer) rest ≡ tooLong) × (opening (length buffer) rest ≡ tooLong → after scraps .state .refused ≡ true)
         go (held w) = (λ e. absurd (true≢false (sym e ∙ w .fine)), λ e. absurd (holds-fits (length buffer) (after scraps .state) (after scraps .buffer) rest w e))
         go (stuck u e) = (λ f. e, λ f. u .said)
-
-    -- the next call, with a scrap c: refused, or what it comes to
-    abbrev asked : List ℕ → Answer Handed
-    asked c = scrapAnswer (after scraps .state) (after scraps .buffer) c
-
-    data Next (c : List ℕ) : Type 0 where
-      not : asked c ≡ refused 2 → Next c
-      comes-to : (w : Holds (length buffer) (after scraps .state) (after scraps .buffer) rest) (bt : Bytes (rest ++ c))
-          → Comes (length buffer) (after scraps .state) (after scraps .buffer) rest w c bt → Next c
-
-    next : (c : List ℕ) → Bytes c → Next c
-    next c bc = go (below-or (length buffer) headerSize)
-      where
-        stood : Stands (length buffer) (after scraps .state) (after scraps .buffer) rest → Next c
-        stood (held w) = let bt = bytes-both rest c (w .bytes) bc in comes-to w bt (comes (length buffer) (after scraps .state) (after scraps .buffer) rest w c bt)
-        stood (stuck u e) = not (stuck-answer (after scraps .state) u (after scraps .buffer) c)
-
-        go : (length buffer < headerSize) ⊎ (headerSize ≤ length buffer) → Next c
-        go (inl h) = not (ap (λ (d : Driven). scrapAnswer (d .state) (d .buffer) c) (narrow-drive scraps h) ∙ narrow-answer buffer h c)
-        go (inr h) = stood (driven h scraps b .stands)
-
-    -- the call that hands a frame out brings its last byte
-    pub each-at-once : (c : List ℕ) → Bytes c → (n m : ℕ) → asked c ≡ done (frame n m) → AtOnce rest c (bufferAfter (after scraps .state) (after scraps .buffer) c) n m
-    each-at-once c bc n m a = go (next c bc)
-      where
-        go : Next c → AtOnce rest c (bufferAfter (after scraps .state) (after scraps .buffer) c) n m
-        go (not e) = never (sym e ∙ a)
-        go (comes-to w bt (keeps e f r v)) = never-handed n m (sym e ∙ a)
-        go (comes-to w bt (hands e l q x p d f r v)) =
-            let u : done (frame n m) ≡ done (frame (frameLength (rest ++ c)) (frameLength (rest ++ c) - after scraps .state .held)) = sym a ∙ e in
-            let z : n ≡ frameLength (rest ++ c) = cc in
-            let y : m ≡ frameLength (rest ++ c) - after scraps .state .held = cc in
-            rw z (record { before = l; there = q; took = y ∙ rw (w .held); front = p })
-        go (comes-to w bt (refuses e z g f r v x)) = never (sym g ∙ a)
-
-    -- and one that takes all of a scrap leaves no whole frame waiting
-    pub none-waits : (c : List ℕ) → Bytes c → asked c ≡ done all → framesOf (length buffer) (stream scraps ++ c) ≡ framesOf (length buffer) (stream scraps)
-    none-waits c bc a = frames-append (length buffer) (stream scraps) c ∙ rw (go (next c bc)) (append-nil (framesOf (length buffer) (stream scraps)))
-      where
-        go : Next c → framesOf (length buffer) (rest ++ c) ≡ []
-        go (not e) = never (sym e ∙ a)
-        go (comes-to w bt (keeps e f r v)) = f
-        go (comes-to w bt (hands e l q x p d f r v)) = never-handed _ _ (sym a ∙ e)
-        go (comes-to w bt (refuses e z g f r v x)) = never (sym g ∙ a)

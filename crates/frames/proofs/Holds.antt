@@ -2,16 +2,16 @@
 use Prim.Native.Nat.{ℕ, _+_, _-_, _≤_, _<_}
 use mathlib.Core.Path.{_≡_, refl, sym, ap, _∙_}
 use mathlib.Core.List.{List, [], _∷_, _++_}
-use mathlib.Core.Bool.{Bool, true, false}
+use mathlib.Core.Bool.{true, false}
 use mathlib.Core.Logic.{_⊎_, inl, inr}
 use native.Mathlib.Omega.{arith}
-use lib.ListN.{length, take, drop, length-append, length-drop, take-append-drop}
-use lib.Seq.{sets, sets-eq, length-sets, length-take-le, take-append-seam, drop-append-add, take-append-add, take-at}
+use lib.ListN.{length, take, drop, length-append}
+use lib.Seq.{sets, sets-eq, length-sets, length-take-le, drop-append-add, take-append-add, take-at}
 use borrow.Author.Tests.{lt-ltb, le-ltb}
 use Rattle.wire.specs.Numbers.{Bytes}
 use Rattle.wire.specs.Answers.{Answer, done, refused, under, over, other, KeepsAll}
 use Rattle.frames.specs.Frames.{headerSize, maxFrame, frameLength, Opening, noHeader, tooLong, begun, whole, openingOf, opening, framesOf, restOf}
-use Rattle.frames.specs.Calls.{resetState, flag, stateRules, roomRules, since, lengthOf, brought, outcome, Handed, all, frame, answerOf, stateOf, bufferOf, scrapAnswer, stateAfter, bufferAfter}
+use Rattle.frames.specs.Calls.{resetState, flag, stateRules, lengthOf, brought, outcome, all, frame, answerOf, stateOf, bufferOf, scrapAnswer, stateAfter, bufferAfter}
 use Rattle.frames.specs.declared.FrameState.{FrameState}
 use Rattle.frames.proofs.CallLaws.{zero-or, length-known, length-read, frame-some, Open, admitted-is}
 use Rattle.frames.proofs.Streams.{frame-more, frame-most, frame-none, frame-zero, not-long, View, is-none, is-long, is-begun, is-whole, view, frames-stop, frames-go}

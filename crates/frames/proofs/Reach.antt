@@ -1,20 +1,20 @@
 -- The states that calls from a reset leave are those that are not refused with 11. Assumes nothing.
-use Prim.Native.Nat.{ℕ, zero, suc, _+_, _-_, _≤_, _<_, _^_}
+use Prim.Native.Nat.{ℕ, zero, suc, _+_, _-_, _≤_, _<_}
 use mathlib.Core.Path.{_≡_, refl, sym, ap, _∙_}
 use mathlib.Core.List.{List, [], _∷_, _++_}
 use mathlib.Core.Bool.{Bool, true, false}
 use mathlib.Core.Logic.{_⊎_, inl, inr}
 use native.Mathlib.Nat.{zero-add}
 use native.Mathlib.Omega.{arith}
-use lib.ListN.{length, take, drop, set, replicate, length-append, length-drop, length-replicate, take-append-drop}
+use lib.ListN.{length, take, drop, set, replicate, length-append, length-replicate, take-append-drop}
 use lib.Seq.{sets, length-take-le}
 use borrow.Author.Tests.{le-ltb}
-use Rattle.wire.specs.Numbers.{lowFirst, valueOf, Bytes}
+use Rattle.wire.specs.Numbers.{lowFirst, Bytes}
 use Rattle.wire.specs.Answers.{Answer, done, refused, Rule, judged, KeepsAll}
 use Rattle.wire.proofs.Numbers.{below-or, value-low, low-bytes, bytes-part, bytes-drop}
 use Rattle.wire.proofs.Rules.{never, rule-kept, all-were}
-use Rattle.frames.specs.Frames.{headerSize, lengthAt, maxFrame, frameLength, Opening, noHeader, tooLong, begun, whole, openingOf, opening}
-use Rattle.frames.specs.Calls.{resetState, flag, stateRules, roomRules, admitted, since, lengthOf, brought, outcome, Handed, answerOf, stateOf, bufferOf, scrapAnswer, stateAfter, bufferAfter}
+use Rattle.frames.specs.Frames.{headerSize, maxFrame, frameLength, Opening, noHeader, tooLong, begun, whole, openingOf, opening}
+use Rattle.frames.specs.Calls.{resetState, flag, stateRules, roomRules, admitted, since, lengthOf, brought, outcome, answerOf, stateOf, bufferOf, scrapAnswer, stateAfter, bufferAfter}
 use Rattle.frames.specs.declared.FrameState.{FrameState}
 use Rattle.frames.proofs.CallLaws.{zero-or, since-length, length-known, length-read, frame-some, opens-none, opens-long, opens-begun, few-kept, Open, many-kept, admitted-keeps, room-header, room-held, room-frame, room-refused, room-serves, admit-length, admit-refused, admit-whole, admit-longest}
 use Rattle.frames.specs.Drives.{takenBy, handedBy, Called, reset, call, Left}
@@ -206,7 +206,7 @@ refused-left h l =
     let t = call-state headerSize s b c (first-holds headerSize w c q (omega arith)) d (rw all lb) tooLong o ∙ ap (λ (x : FrameState). record { held = x .held; length = x .length; refused = true }) e in
     rw t at (leaves (call s b _ _ d (first headerSize w c q) (bytes-drop long h lb)))
 
-pub sound-left : (s : FrameState) → KeepsAll (stateRules s) → Left s
+sound-left : (s : FrameState) → KeepsAll (stateRules s) → Left s
 sound-left s k = go (below-or (s .held) headerSize)
   where
     few : s .held < headerSize → (r : Bool) → s .refused ≡ r → Left s
@@ -310,6 +310,14 @@ module _ (s : FrameState) (buffer scrap : List ℕ) where
       go : (Left s → ⊥) → KeepsAll (stateRules s) ⊎ (outcome s buffer scrap ≡ refused 11) → scrapAnswer s buffer scrap ≡ refused 11
       go f (inl k) = absurd (f (sound-left s k))
       go f (inr e) = ap (λ (o : Answer Opening). answerOf o (s .held)) e
+
+-- so a state that is not refused with 11 is left by some calls, over some buffer
+pub not-eleven-left : (s : FrameState) (buffer scrap : List ℕ) → (scrapAnswer s buffer scrap ≡ refused 11 → ⊥) → Left s
+not-eleven-left s buffer scrap f = go (sound-or s buffer scrap)
+  where
+    go : KeepsAll (stateRules s) ⊎ (outcome s buffer scrap ≡ refused 11) → Left s
+    go (inl k) = sound-left s k
+    go (inr e) = absurd (f (ap (λ (o : Answer Opening). answerOf o (s .held)) e))
 
 -- a call from a state that is not 11 leaves one that is not, whatever is asked of it
 pub eleven-never-comes : (s : FrameState) (buffer scrap : List ℕ) → Bytes buffer → Bytes scrap → (scrapAnswer s buffer scrap ≡ refused 11 → ⊥)

@@ -1,18 +1,17 @@
--- States: which calls from a reset leave, and what a refused one answers. Assumes nothing.
-use Prim.Native.Nat.{ℕ, _+_, _-_, _≤_, _<_}
-use mathlib.Core.Path.{_≡_, refl, sym, ap, _∙_}
-use mathlib.Core.List.{List, [], _∷_, _++_}
-use mathlib.Core.Bool.{Bool, true, false}
+-- A state that says refused, and a buffer that is shorter than a header: what a call answers and leaves then. Assumes nothing.
+use Prim.Native.Nat.{ℕ, _-_, _≤_, _<_}
+use mathlib.Core.Path.{_≡_, refl, sym, ap}
+use mathlib.Core.List.{List}
+use mathlib.Core.Bool.{true}
 use mathlib.Core.Logic.{_⊎_, inl, inr}
 use native.Mathlib.Omega.{arith}
 use lib.ListN.{length}
-use Rattle.wire.specs.Answers.{Answer, done, refused, judged, KeepsAll}
+use Rattle.wire.specs.Answers.{Answer, done, refused, judged}
 use Rattle.wire.proofs.Numbers.{below-or}
-use Rattle.frames.specs.Frames.{headerSize, maxFrame, frameLength, Opening, noHeader, tooLong, begun, whole, opening}
-use Rattle.frames.specs.Calls.{resetState, flag, stateRules, roomRules, admitted, brought, outcome, Handed, answerOf, stateOf, bufferOf, scrapAnswer, stateAfter, bufferAfter}
+use Rattle.frames.specs.Frames.{headerSize, Opening}
+use Rattle.frames.specs.Calls.{resetState, roomRules, brought, outcome, answerOf, stateOf, bufferOf, scrapAnswer, stateAfter, bufferAfter}
 use Rattle.frames.specs.declared.FrameState.{FrameState}
-use Rattle.frames.proofs.CallLaws.{few-kept, many-kept, room-header, room-held, room-frame, room-refused, admit-few}
-use Rattle.frames.proofs.Holds.{few-keeps, many-keeps}
+use Rattle.frames.proofs.CallLaws.{room-header, room-refused, admit-few}
 
 -- refused: less than a header is held
 pub record Stuck (s : FrameState) : Type 0 where
@@ -39,7 +38,7 @@ module _ (s : FrameState) (u : Stuck s) (buffer scrap : List ℕ) where
   pub stuck-buffer : bufferAfter s buffer scrap ≡ buffer
   stuck-buffer = ap (λ (o : Answer Opening). bufferOf o (s .held) buffer scrap) refused-two
 
--- a buffer that is shorter than a header serves no state
+-- over a buffer that is shorter than a header a call from a reset is refused, and nothing changes
 module _ (buffer : List ℕ) (h : length buffer < headerSize) (scrap : List ℕ) where
   narrow-two : outcome resetState buffer scrap ≡ refused 2
   unfolding outcome

@@ -1,11 +1,11 @@
 -- Laws of the frames of a stream, from their definition alone. Assumes nothing.
 use Prim.Native.Nat.{ℕ, zero, suc, _+_, _-_, _≤_, _<_}
 use mathlib.Core.Path.{_≡_, refl, sym, ap, _∙_}
-use mathlib.Core.List.{List, [], _∷_, _++_, append-assoc}
+use mathlib.Core.List.{List, [], _∷_, _++_}
 use mathlib.Core.Logic.{_⊎_, inl, inr}
 use native.Mathlib.Omega.{arith}
 use lib.ListN.{length, take, drop, length-append, length-drop, getD, List·getD-append}
-use lib.Seq.{take-append-le, drop-append-le, getD-drop}
+use lib.Seq.{take-append-le, drop-append-le}
 use borrow.Author.Tests.{lt-ltb, le-ltb}
 use Rattle.wire.specs.Numbers.{valueOf, Bytes}
 use Rattle.wire.proofs.Numbers.{below-or, value-two, value-small, bytes-drop}

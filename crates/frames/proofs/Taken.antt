@@ -1,17 +1,19 @@
--- Whatever calls are made: the frames that they handed out are those of the bytes that they took, and what is held is the rest. Assumes nothing.
+-- Whatever calls are made: the frames that they handed out are those of the bytes that they took, each by the call that brought its last byte, and
+-- what is held is the rest. Assumes nothing.
 use Prim.Native.Nat.{ℕ, _+_, _-_, _≤_, _<_}
 use mathlib.Core.Path.{_≡_, refl, sym, ap, _∙_}
 use mathlib.Core.List.{List, [], _∷_, _++_, append-nil}
 use mathlib.Core.Bool.{true, false, true≢false}
 use mathlib.Core.Logic.{_⊎_, inl, inr}
 use native.Mathlib.Omega.{arith}
-use lib.ListN.{length, take, drop, length-append, length-drop, take-append-drop, drop-of-length-le}
+use lib.ListN.{length, take, drop, take-append-drop, drop-of-length-le}
 use lib.Seq.{length-sets, length-take-le, take-all, take-append-add}
 use Rattle.wire.specs.Numbers.{Bytes}
 use Rattle.wire.specs.Answers.{Answer, done, refused}
 use Rattle.wire.proofs.Numbers.{below-or}
+use Rattle.wire.proofs.Rules.{never}
 use Rattle.frames.specs.Frames.{headerSize, frameLength, Opening, noHeader, tooLong, begun, whole, framesOf, restOf}
-use Rattle.frames.specs.Calls.{resetState, outcome, bufferOf, scrapAnswer, stateAfter, bufferAfter}
+use Rattle.frames.specs.Calls.{resetState, all, frame, outcome, bufferOf, scrapAnswer, stateAfter, bufferAfter}
 use Rattle.frames.specs.Drives.{takenBy, handedBy, Called, reset, call}
 use Rattle.frames.specs.declared.FrameState.{FrameState}
 use Rattle.frames.proofs.CallLaws.{frame-some, opens-none, opens-whole}
@@ -114,6 +116,16 @@ module _ (room : ℕ) where
       record { frames = sym (z .0); stands = inl (rw (z .1) h) }
   right w s buffer t fs (call u b y gs c l q) e = next u b y gs c q (right w u b y gs l (sym (buffer-length u b c) ∙ e))
 
+-- a frame of n bytes, of a stream that had r since the last one's end: c brings its last byte, and m is how many bytes of c it wanted
+pub record AtOnce (r c buffer : List ℕ) (n m : ℕ) : Type 0 where
+  pub before : length r < n
+  pub there : n ≤ length (r ++ c)
+  pub took : m ≡ n - length r
+  pub front : take n buffer ≡ take n (r ++ c)
+
+never-handed : {B : Type 0} (n m : ℕ) → done all ≡ done (frame n m) → B
+never-handed n m h = absurd (let z : _≡_ {A = ℕ} 0 1 = cc in omega arith)
+
 -- ---- the theorems
 module _ (s : FrameState) (buffer t : List ℕ) (fs : List (List ℕ)) (c : Called s buffer t fs) where
   -- the frames that calls handed out are the whole frames of the bytes that they took
@@ -135,3 +147,46 @@ module _ (s : FrameState) (buffer t : List ℕ) (fs : List (List ℕ)) (c : Call
       go : (length buffer < headerSize) ⊎ (headerSize ≤ length buffer) → (s .held ≡ length (restOf (length buffer) t)) × (take (s .held) buffer ≡ restOf (length buffer) t)
       go (inl h) = let n = narrow s buffer t fs c h in let z = empty-still (length buffer) in rw (n .stream, n .state, z .1) (refl, refl)
       go (inr h) = stood (right (length buffer) h s buffer t fs c refl .stands)
+
+  -- the next call, with a scrap: refused, or what it comes to
+  module _ (scrap : List ℕ) (q : Bytes scrap) where
+    data Asked : Type 0 where
+      not : scrapAnswer s buffer scrap ≡ refused 2 → Asked
+      comes-to : (h : Holds (length buffer) s buffer (restOf (length buffer) t)) (b : Bytes (restOf (length buffer) t ++ scrap))
+          → Comes (length buffer) s buffer (restOf (length buffer) t) h scrap b → Asked
+
+    asked : Asked
+    asked = go (below-or (length buffer) headerSize)
+      where
+        stood : Holds (length buffer) s buffer (restOf (length buffer) t) ⊎ Stuck s → Asked
+        stood (inl h) = let b = bytes-both (restOf (length buffer) t) scrap (h .bytes) q in comes-to h b (comes (length buffer) s buffer (restOf (length buffer) t) h scrap b)
+        stood (inr u) = not (stuck-answer s u buffer scrap)
+
+        go : (length buffer < headerSize) ⊎ (headerSize ≤ length buffer) → Asked
+        go (inl h) = not (rw (narrow s buffer t fs c h .state) (narrow-answer buffer h scrap))
+        go (inr h) = stood (right (length buffer) h s buffer t fs c refl .stands)
+
+    -- a call that hands a frame out brings its last byte
+    pub each-at-once : (n m : ℕ) → scrapAnswer s buffer scrap ≡ done (frame n m) → AtOnce (restOf (length buffer) t) scrap (bufferAfter s buffer scrap) n m
+    each-at-once n m a = go asked
+      where
+        go : Asked → AtOnce (restOf (length buffer) t) scrap (bufferAfter s buffer scrap) n m
+        go (not e) = never (sym e ∙ a)
+        go (comes-to h b (keeps e f r v)) = never-handed n m (sym e ∙ a)
+        go (comes-to h b (hands e l k x p d f r v)) =
+            let u : List ℕ = restOf (length buffer) t ++ scrap in
+            let w : done (frame n m) ≡ done (frame (frameLength u) (frameLength u - s .held)) = sym a ∙ e in
+            let y : n ≡ frameLength u = cc in
+            let z : m ≡ frameLength u - s .held = cc in
+            rw y (record { before = l; there = k; took = z ∙ rw (h .held); front = p })
+        go (comes-to h b (refuses e z g f r v x)) = never (sym g ∙ a)
+
+    -- and one that takes all of its scrap leaves no whole frame waiting
+    pub none-waits : scrapAnswer s buffer scrap ≡ done all → framesOf (length buffer) (t ++ scrap) ≡ framesOf (length buffer) t
+    none-waits a = frames-append (length buffer) t scrap ∙ rw (go asked) (append-nil (framesOf (length buffer) t))
+      where
+        go : Asked → framesOf (length buffer) (restOf (length buffer) t ++ scrap) ≡ []
+        go (not e) = never (sym e ∙ a)
+        go (comes-to h b (keeps e f r v)) = f
+        go (comes-to h b (hands e l k x p d f r v)) = never-handed _ _ (sym a ∙ e)
+        go (comes-to h b (refuses e z g f r v x)) = never (sym g ∙ a)

@@ -10,7 +10,6 @@ use Rattle.wire.specs.Refusals.{number}
 use Rattle.wire.specs.Answers.{Answer, done, refused, Rule, under, over, other, judged}
 use Rattle.frames.specs.Frames.{headerSize, maxFrame, frameLength, Opening, noHeader, tooLong, begun, whole, openingOf}
 use Rattle.frames.specs.declared.FrameState.{FrameState}
-use Rattle.frames.specs.declared.Frame.{Frame}
 use Rattle.frames.specs.declared.Took.{Took}
 use Rattle.frames.specs.declared.Took.the-variants.{All, Whole, Refused}
 
@@ -41,7 +40,7 @@ since held buffer scrap = take held buffer ++ scrap
 
 -- the frame that they begin has the length which the state knows, else the one in its header
 abbrev pub lengthOf : ℕ → List ℕ → ℕ
-lengthOf known s = pick (eqb known 0) (frameLength s) known
+lengthOf known bytes = pick (eqb known 0) (frameLength bytes) known
 
 -- what they begin with
 unfoldable pub brought : FrameState → List ℕ → List ℕ → Opening

@@ -18,7 +18,7 @@ abbrev pub behind : List (List ℕ) → Driven → Driven
 behind fs d = record { state = d .state; buffer = d .buffer; handed = fs ++ d .handed }
 
 -- one scrap: a call, and where it handed out a frame, which lies at the front of the buffer, another with what is left of the scrap. A frame takes a
--- byte at least, so the scrap's length bounds the calls
+-- byte at least, so the scrap's length bounds the calls; with nothing to give there is none to make
 abbrev pub gives : ℕ → FrameState → List ℕ → List ℕ → Driven
 gives zero s buffer scrap = record { state = s; buffer = buffer; handed = [] }
 gives (suc k) s buffer scrap =

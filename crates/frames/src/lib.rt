@@ -14,7 +14,7 @@ ghost use Rattle.frames.specs.Frames.{headerSize, frameLength};
 ghost use Rattle.frames.specs.Conditions.{Serves};
 ghost use Rattle.frames.specs.Calls.{resetState, roomRules, admitted, since, lengthOf, brought, answerOf, stateOf, bufferOf, scrapAnswer, stateAfter, bufferAfter, paperTook};
 
-// ---- numbers of Volume 2, each beside its twin in specs/Frames.antt
+// ---- numbers of Volume 2, each with its twin in specs/Frames.antt
 
 // Bytes of a header.
 pub const HEADER: usize = 24;
@@ -66,7 +66,7 @@ pub fn reset_state() -> FrameState
     }
 }
 
-// Whether a buffer of so many bytes serves a state that calls leave; then the length which it knows.
+// Whether a buffer of so many bytes serves a state that calls leave. (What is counted is the length that the state knows; no one asks for it.)
 fn serve(state: FrameState, room: usize) -> Counted
     ensures { λ r. ⌜ paperCount r ≡ judged (roomRules state room) (done (state .length)) ⌝ }
 {
@@ -88,7 +88,7 @@ fn serve(state: FrameState, room: usize) -> Counted
     Counted::Count(length)
 }
 
-// The same, where calls from a reset leave such a state.
+// The same of any state: one that no calls from a reset leave is refused first.
 fn admit(state: FrameState, room: usize) -> Counted
     ensures { λ r. ⌜ paperCount r ≡ admitted state room (done (state .length)) ⌝ }
 {

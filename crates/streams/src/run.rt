@@ -151,7 +151,7 @@ fn turn(r: Run, stream: &[u8], cut: usize, buffer: &mut [u8], aloud: bool) -> Ru
     took(r, t, given, buffer, aloud)
 }
 
-// A call takes a byte at least, so there are no more calls than bytes.
+// Each call takes a byte at least, or passes its scrap over: so there are no more calls than bytes.
 pub(crate) fn drive(stream: &[u8], cut: usize, from: Run, buffer: &mut [u8], aloud: bool) -> Run {
     let mut r = from;
     for i in 0..stream.len() {
