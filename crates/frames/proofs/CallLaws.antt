@@ -60,7 +60,7 @@ module _ (s : FrameState) (room : ℕ) {A : Type 0} (y : Answer A) where
   few z h e = e ∙ simp (lt-ltb (s .held) headerSize h)
 
   many : (z : Answer A) → headerSize ≤ s .held
-      → z ≡ judged (other (flag (s .refused)) 0 11 ∷ under (s .length) (s .held + 1) 11 ∷ over (s .length) maxFrame 11 ∷ roomRules s room) y
+      → z ≡ judged (other (flag (s .refused)) 0 11 ∷ over (s .length) maxFrame 11 ∷ under (s .length) (s .held + 1) 11 ∷ roomRules s room) y
       → z ≡ admitted s room y
   many z h e = e ∙ simp (le-ltb (s .held) headerSize h)
 
@@ -75,26 +75,23 @@ module _ (s : FrameState) (room : ℕ) {A : Type 0} (y : Answer A) where
     admit-refused f = let k : flag (s .refused) ≡ 0 → ⊥ = flag-yes s room f in many (refused 11) h (search rules)
 
     module _ (f : s .refused ≡ false) where
-      pub admit-whole : s .length ≤ s .held → refused 11 ≡ admitted s room y
-      admit-whole l =
-          let k : flag (s .refused) ≡ 0 = flag-no s room f in
-          let m : s .length < s .held + 1 = omega arith in
-          many (refused 11) h (search rules)
+      pub admit-longest : maxFrame < s .length → refused 11 ≡ admitted s room y
+      admit-longest g = let k : flag (s .refused) ≡ 0 = flag-no s room f in many (refused 11) h (search rules)
 
-      module _ (l : s .held < s .length) where
-        pub admit-longest : maxFrame < s .length → refused 11 ≡ admitted s room y
-        admit-longest g =
+      module _ (g : s .length ≤ maxFrame) where
+        pub admit-whole : s .length ≤ s .held → refused 11 ≡ admitted s room y
+        admit-whole l =
             let k : flag (s .refused) ≡ 0 = flag-no s room f in
-            let m : s .held + 1 ≤ s .length = omega arith in
+            let m : s .length < s .held + 1 = omega arith in
             many (refused 11) h (search rules)
 
-        pub admit-many : (z : Answer A) → s .length ≤ maxFrame → z ≡ judged (roomRules s room) y → z ≡ admitted s room y
-        admit-many z g e =
+        pub admit-many : (z : Answer A) → s .held < s .length → z ≡ judged (roomRules s room) y → z ≡ admitted s room y
+        admit-many z l e =
             let k : flag (s .refused) ≡ 0 = flag-no s room f in
             let m : s .held + 1 ≤ s .length = omega arith in
             many z h (search rules)
 
-pub ruleset admit-laws = (admit-length, admit-few, admit-refused, admit-whole, admit-longest, admit-many)
+pub ruleset admit-laws = (admit-length, admit-few, admit-refused, admit-longest, admit-whole, admit-many)
 
 -- ---- the bytes since the last frame's end
 module _ (held : ℕ) (buffer scrap : List ℕ) (k : held ≤ length buffer) where
@@ -272,8 +269,8 @@ pub record Open (s : FrameState) : Type 0 where
 
 pub many-kept : (s : FrameState) → KeepsAll (stateRules s) → headerSize ≤ s .held → Open s
 many-kept s k h =
-    let w : KeepsAll (other (flag (s .refused)) 0 11 ∷ under (s .length) (s .held + 1) 11 ∷ over (s .length) maxFrame 11 ∷ []) = simp (le-ltb (s .held) headerSize h) at k in
-    record { fine = w .0; more = omega (arith, w .1 .0); most = w .1 .1 .0 }
+    let w : KeepsAll (other (flag (s .refused)) 0 11 ∷ over (s .length) maxFrame 11 ∷ under (s .length) (s .held + 1) 11 ∷ []) = simp (le-ltb (s .held) headerSize h) at k in
+    record { fine = w .0; more = omega (arith, w .1 .1 .0); most = w .1 .0 }
 
 pub serves : (s : FrameState) (room : ℕ) → KeepsAll (stateRules s) → KeepsAll (roomRules s room) → Serves s room
 serves s room k m = record { kept = m .1 .0; headless = λ z. go z (below-or (s .held) headerSize); known = λ f. to f (below-or (s .held) headerSize) }

@@ -23,8 +23,8 @@ module _ (s : FrameState) where
 
   pub many-keeps : headerSize ≤ s .held → Open s → KeepsAll (stateRules s)
   many-keeps h o =
-      let w : KeepsAll (other (flag (s .refused)) 0 11 ∷ under (s .length) (s .held + 1) 11 ∷ over (s .length) maxFrame 11 ∷ [])
-      = (o .fine, (omega (arith, o .more), (o .most, tt))) in
+      let w : KeepsAll (other (flag (s .refused)) 0 11 ∷ over (s .length) maxFrame 11 ∷ under (s .length) (s .held + 1) 11 ∷ [])
+      = (o .fine, (o .most, (omega (arith, o .more), tt))) in
       simp (le-ltb (s .held) headerSize h) w
 
 -- ---- what is held is the stream's t: less than a frame that fits

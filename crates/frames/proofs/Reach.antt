@@ -295,8 +295,8 @@ module _ (s : FrameState) (buffer scrap : List ℕ) where
       many : headerSize ≤ s .held → (r : Bool) → s .refused ≡ r → (s .held < s .length) ⊎ (s .length ≤ s .held) → (maxFrame < s .length) ⊎ (s .length ≤ maxFrame)
           → KeepsAll (stateRules s) ⊎ (outcome s buffer scrap ≡ refused 11)
       many h true e a b = inr (sym (admit-refused s n y h e))
-      many h false e (inr a) b = inr (sym (admit-whole s n y h e a))
-      many h false e (inl a) (inl b) = inr (sym (admit-longest s n y h e a b))
+      many h false e a (inl b) = inr (sym (admit-longest s n y h e b))
+      many h false e (inr a) (inr b) = inr (sym (admit-whole s n y h e b a))
       many h false e (inl a) (inr b) = inl (many-keeps s h (record { fine = ap flag e; more = a; most = b }))
 
       go : (s .held < headerSize) ⊎ (headerSize ≤ s .held) → KeepsAll (stateRules s) ⊎ (outcome s buffer scrap ≡ refused 11)

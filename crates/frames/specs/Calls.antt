@@ -20,12 +20,12 @@ resetState = record { held = 0; length = 0; refused = false }
 abbrev pub flag : Bool → ℕ
 flag b = pick b 1 0
 
--- 11 for a state that no calls from a reset leave: a length without a header, a header without its length, a frame that is whole or longer than
--- any, a refusal behind a header
+-- 11 for a state that no calls from a reset leave: with less than a header a length; with a header a refusal, a frame that is longer than any, or one
+-- that is whole already
 abbrev pub stateRules : FrameState → List Rule
 stateRules s =
     pick (ltb (s .held) headerSize) (other (s .length) 0 11 ∷ [])
-    (other (flag (s .refused)) 0 11 ∷ under (s .length) (s .held + 1) 11 ∷ over (s .length) maxFrame 11 ∷ [])
+    (other (flag (s .refused)) 0 11 ∷ over (s .length) maxFrame 11 ∷ under (s .length) (s .held + 1) 11 ∷ [])
 
 -- then 2 for a buffer that is shorter than a header, than what is held or than the known frame, and for a state that says refused
 abbrev pub roomRules : FrameState → ℕ → List Rule

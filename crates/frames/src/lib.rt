@@ -104,10 +104,10 @@ fn admit(state: FrameState, room: usize) -> Counted
     if refused {
         return Counted::Refused(Refusal::Outside);
     }
-    if length <= held {
+    if MAX_FRAME < length {
         return Counted::Refused(Refusal::Outside);
     }
-    if MAX_FRAME < length {
+    if length <= held {
         return Counted::Refused(Refusal::Outside);
     }
     serve(state, room)
