@@ -1,5 +1,5 @@
 // Frames of the encapsulation protocol, collected from a stream that comes in scraps: document 02, Wish 1. A driver holds the state and lends it
-// with a buffer, the same at each call, in which the frame so far is kept. The crate rseip-cip reads its stream with a codec that is not in its pages.
+// with a buffer, the same at each call, in which the frame so far is kept. The crate rseip-cip has nothing like it in its pages.
 use wire::Counted;
 use wire::Refusal;
 use wire_read::byte_at;
