@@ -1,4 +1,5 @@
 // Answers each case on standard input with one line of hex: docs/ANSWERS.md has the form of both. A line that is no case is answered `bad`.
+#![tactic(auto)]
 mod fields; // fields.rt: the fields of a case
 mod said; // said.rt: the bytes of an answer
 mod connections; // connections.rt: the fields of a Forward Open

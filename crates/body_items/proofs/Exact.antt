@@ -13,8 +13,8 @@ use Rattle.body_items.specs.contracts.body_item
 pub item_one : (a b : ItemRead) → paper_item a ≡ paper_item b → a ≡ b
 item_one = one_by paper_item (from_paper Found Refused) (elim [ Found x ↦ refl | Refused e ↦ ap Refused (number_back e) ])
 
-pub walk_item_exact : Exact walk_item.ended (λ _. walk_item.clauses)
+pub walk_item_exact : Exact walk_item.ended (λ _ _. walk_item.clauses)
 walk_item_exact = exact (λ w κs a. (tt, λ m. tt)) (λ w κs a g z e. search says) (λ t. (item_one t.z t.z' (same t.said t.said'), refl))
 
-pub body_item_exact : Exact body_item.ended (λ _. body_item.clauses)
+pub body_item_exact : Exact body_item.ended (λ _ _. body_item.clauses)
 body_item_exact = exact (λ w κs a. (tt, λ m. tt)) (λ w κs a g z e. search says) (λ t. (item_one t.z t.z' (same t.said t.said'), refl))

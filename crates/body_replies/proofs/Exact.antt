@@ -6,8 +6,8 @@ use Rattle.reply_header.proofs.Exact.{reply_one}
 use Rattle.body_replies.specs.contracts.walk_reply
 use Rattle.body_replies.specs.contracts.reply_item
 
-pub walk_reply_exact : Exact walk_reply.ended (λ _. walk_reply.clauses)
+pub walk_reply_exact : Exact walk_reply.ended (λ _ _. walk_reply.clauses)
 walk_reply_exact = exact (λ w κs a. (tt, λ m. tt)) (λ w κs a g z e. search says) (λ t. (reply_one t.z t.z' (same t.said t.said'), refl))
 
-pub reply_item_exact : Exact reply_item.ended (λ _. reply_item.clauses)
+pub reply_item_exact : Exact reply_item.ended (λ _ _. reply_item.clauses)
 reply_item_exact = exact (λ w κs a. (tt, λ m. tt)) (λ w κs a g z e. search says) (λ t. (reply_one t.z t.z' (same t.said t.said'), refl))

@@ -1,6 +1,7 @@
 // The replies in a body, each by its index and from its own item's bytes. Beside it in rseip-cip: `ReplyIter` in
 // src/service/common_services/multiple_packet.rs.
 // An item's header is judged when that item is asked for: its refusal touches no other.
+#![tactic(auto)]
 ghost use Rattle.std.specs.Prelude.{◌≡◌, ◌≤◌};
 ghost use Rattle.connection.specs.Limits.{max_record};
 ghost use Rattle.reply_header.specs.Headers.{paper_reply};

@@ -1,6 +1,7 @@
 // The data of a Multiple Service Packet, a body: a count, that many offsets, and the items; here what a body is, and its size. Beside it in
 // rseip-cip: `MultipleServicesEncoder` in src/service/common_services/multiple_packet.rs.
 // The items are lent end to end, and beside them a run of their lengths.
+#![tactic(auto)]
 ghost use Rattle.std.specs.Prelude.{◌≡◌, length};
 ghost use Rattle.wire.specs.Answers.{paper_size};
 ghost use Rattle.body_sizes.specs.Bodies.{items_size, body_size};

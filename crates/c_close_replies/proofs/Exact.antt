@@ -3,6 +3,6 @@
 use Rattle.exact.specs.Exact.{Exact, exact, says, same}
 use Rattle.c_close_replies.specs.contracts.bark_read_forward_close_reply
 
-pub bark_read_forward_close_reply_exact : Exact bark_read_forward_close_reply.ended (λ _. bark_read_forward_close_reply.clauses)
+pub bark_read_forward_close_reply_exact : Exact bark_read_forward_close_reply.ended (λ _ _. bark_read_forward_close_reply.clauses)
 bark_read_forward_close_reply_exact = exact (λ w κs a. (tt, λ m. tt)) (λ w κs a g z e. search says) (λ t.
     (same t.said.0 t.said'.0, λ i. (tt, (tt, (same t.said.1 t.said'.1 i, tt)))))

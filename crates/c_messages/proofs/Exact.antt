@@ -4,10 +4,10 @@ use Rattle.exact.specs.Exact.{Exact, exact, says, same}
 use Rattle.c_messages.specs.contracts.bark_write_message
 use Rattle.c_messages.specs.contracts.bark_read_message
 
-pub bark_write_message_exact : Exact bark_write_message.ended (λ _. bark_write_message.clauses)
+pub bark_write_message_exact : Exact bark_write_message.ended (λ _ _. bark_write_message.clauses)
 bark_write_message_exact = exact (λ w κs a. (tt, λ m. tt)) (λ w κs a g z e. search says) (λ t.
     (same t.said.0 t.said'.0, λ i. (tt, (tt, (tt, (same t.said.1 t.said'.1 i, tt))))))
 
-pub bark_read_message_exact : Exact bark_read_message.ended (λ _. bark_read_message.clauses)
+pub bark_read_message_exact : Exact bark_read_message.ended (λ _ _. bark_read_message.clauses)
 bark_read_message_exact = exact (λ w κs a. (tt, λ m. tt)) (λ w κs a g z e. search says) (λ t.
     (same t.said.0 t.said'.0, λ i. (tt, (same t.said.1 t.said'.1 i, tt))))

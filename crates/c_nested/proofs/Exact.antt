@@ -2,5 +2,5 @@
 use Rattle.exact.specs.Exact.{Exact, exact, says, same}
 use Rattle.c_nested.specs.contracts.bark_read_nested
 
-pub bark_read_nested_exact : Exact bark_read_nested.ended (λ _. bark_read_nested.clauses)
+pub bark_read_nested_exact : Exact bark_read_nested.ended (λ _ _. bark_read_nested.clauses)
 bark_read_nested_exact = exact (λ w κs a. (tt, λ m. tt)) (λ w κs a g z e. search says) (λ t. (same t.said.0 t.said'.0, λ i. (tt, (same t.said.1 t.said'.1 i, tt))))

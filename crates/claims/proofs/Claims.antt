@@ -204,202 +204,202 @@ use Rattle.c_nested.proofs.Exact as CNested
 
 pub record Claims : Type 2 where
   -- wire
-  pub refusal_number : Exact refusal_number.ended (λ _. refusal_number.clauses)
+  pub refusal_number : Exact refusal_number.ended (λ _ _. refusal_number.clauses)
   -- wire_read
-  pub byte_at : Exact byte_at.ended (λ _. byte_at.clauses)
-  pub u16_at : Exact u16_at.ended (λ _. u16_at.clauses)
-  pub u32_at : Exact u32_at.ended (λ _. u32_at.clauses)
-  pub part_of : ExactBy part_of.ended (λ _. part_of.clauses) (λ κs z. z.now)
+  pub byte_at : Exact byte_at.ended (λ _ _. byte_at.clauses)
+  pub u16_at : Exact u16_at.ended (λ _ _. u16_at.clauses)
+  pub u32_at : Exact u32_at.ended (λ _ _. u32_at.clauses)
+  pub part_of : ExactBy part_of.ended (λ _ _. part_of.clauses) (λ κs z. z.now)
   -- wire_write
-  pub put_byte : Exact put_byte.ended (λ _. put_byte.clauses)
-  pub put_u16 : Exact put_u16.ended (λ _. put_u16.clauses)
-  pub put_u32 : Exact put_u32.ended (λ _. put_u32.clauses)
-  pub put_bytes : Exact put_bytes.ended (λ _. put_bytes.clauses)
+  pub put_byte : Exact put_byte.ended (λ _ _. put_byte.clauses)
+  pub put_u16 : Exact put_u16.ended (λ _ _. put_u16.clauses)
+  pub put_u32 : Exact put_u32.ended (λ _ _. put_u32.clauses)
+  pub put_bytes : Exact put_bytes.ended (λ _ _. put_bytes.clauses)
   -- hex
-  pub hex_digit_lem : Exact hex_digit.ended (λ _. hex_digit.clauses)
+  pub hex_digit_lem : Exact hex_digit.ended (λ _ _. hex_digit.clauses)
   -- lines
-  pub blank_line : Exact blank_line.ended (λ _. blank_line.clauses)
-  pub take_char : Exact take_char.ended (λ _. take_char.clauses)
-  pub line_case : Exact line_case.ended (λ _. line_case.clauses)
+  pub blank_line : Exact blank_line.ended (λ _ _. blank_line.clauses)
+  pub take_char : Exact take_char.ended (λ _ _. take_char.clauses)
+  pub line_case : Exact line_case.ended (λ _ _. line_case.clauses)
   -- epath_sizes
-  pub segment_size_lem : Exact segment_size.ended (λ _. segment_size.clauses)
-  pub path_size_lem : Exact path_size.ended (λ _. path_size.clauses)
+  pub segment_size_lem : Exact segment_size.ended (λ _ _. segment_size.clauses)
+  pub path_size_lem : Exact path_size.ended (λ _ _. path_size.clauses)
   -- epath_encode
-  pub write_segment : Exact write_segment.ended (λ _. write_segment.clauses)
-  pub write_path : Exact write_path.ended (λ _. write_path.clauses)
+  pub write_segment : Exact write_segment.ended (λ _ _. write_segment.clauses)
+  pub write_path : Exact write_path.ended (λ _ _. write_path.clauses)
   -- epath_lists
-  pub blank_path : Exact blank_path.ended (λ _. blank_path.clauses)
-  pub default_port : Exact default_port.ended (λ _. default_port.clauses)
-  pub is_port_lem : Exact is_port.ended (λ _. is_port.clauses)
+  pub blank_path : Exact blank_path.ended (λ _ _. blank_path.clauses)
+  pub default_port : Exact default_port.ended (λ _ _. default_port.clauses)
+  pub is_port_lem : Exact is_port.ended (λ _ _. is_port.clauses)
   -- epath_segment
-  pub read_segment : Exact read_segment.ended (λ _. read_segment.clauses)
+  pub read_segment : Exact read_segment.ended (λ _ _. read_segment.clauses)
   -- epath_check
-  pub check_path_lem : Exact check_path.ended (λ _. check_path.clauses)
+  pub check_path_lem : Exact check_path.ended (λ _ _. check_path.clauses)
   -- epath_read
-  pub read_path_lem : Exact read_path.ended (λ _. read_path.clauses)
+  pub read_path_lem : Exact read_path.ended (λ _ _. read_path.clauses)
   -- connection
-  pub default_parameters_lem : Exact default_parameters.ended (λ _. default_parameters.clauses)
-  pub default_options_lem : Exact default_options.ended (λ _. default_options.clauses)
-  pub priority_tick_time_lem : Exact priority_tick_time.ended (λ _. priority_tick_time.clauses)
+  pub default_parameters_lem : Exact default_parameters.ended (λ _ _. default_parameters.clauses)
+  pub default_options_lem : Exact default_options.ended (λ _ _. default_options.clauses)
+  pub priority_tick_time_lem : Exact priority_tick_time.ended (λ _ _. priority_tick_time.clauses)
   -- connection_words
-  pub encode_parameters : Exact encode_parameters.ended (λ _. encode_parameters.clauses)
-  pub decode_parameters : Exact decode_parameters.ended (λ _. decode_parameters.clauses)
+  pub encode_parameters : Exact encode_parameters.ended (λ _ _. encode_parameters.clauses)
+  pub decode_parameters : Exact decode_parameters.ended (λ _ _. decode_parameters.clauses)
   -- transport_words
-  pub transport_class_trigger : Exact transport_class_trigger.ended (λ _. transport_class_trigger.clauses)
-  pub transport_of : Exact transport_of.ended (λ _. transport_of.clauses)
+  pub transport_class_trigger : Exact transport_class_trigger.ended (λ _ _. transport_class_trigger.clauses)
+  pub transport_of : Exact transport_of.ended (λ _ _. transport_of.clauses)
   -- triads
-  pub put_triad : Exact put_triad.ended (λ _. put_triad.clauses)
+  pub put_triad : Exact put_triad.ended (λ _ _. put_triad.clauses)
   -- route
-  pub route_size_lem : Exact route_size.ended (λ _. route_size.clauses)
+  pub route_size_lem : Exact route_size.ended (λ _ _. route_size.clauses)
   -- default_path
-  pub default_connection_path : Exact default_connection_path.ended (λ _. default_connection_path.clauses)
+  pub default_connection_path : Exact default_connection_path.ended (λ _ _. default_connection_path.clauses)
   -- open_sizes
-  pub forward_open_size : Exact forward_open_size.ended (λ _. forward_open_size.clauses)
+  pub forward_open_size : Exact forward_open_size.ended (λ _ _. forward_open_size.clauses)
   -- close_sizes
-  pub forward_close_size : Exact forward_close_size.ended (λ _. forward_close_size.clauses)
+  pub forward_close_size : Exact forward_close_size.ended (λ _ _. forward_close_size.clauses)
   -- open_encode
-  pub write_forward_open : Exact write_forward_open.ended (λ _. write_forward_open.clauses)
-  pub write_forward_open_over : Exact write_forward_open_over.ended (λ _. write_forward_open_over.clauses)
+  pub write_forward_open : Exact write_forward_open.ended (λ _ _. write_forward_open.clauses)
+  pub write_forward_open_over : Exact write_forward_open_over.ended (λ _ _. write_forward_open_over.clauses)
   -- close_fields
-  pub put_close_fields : Exact put_close_fields.ended (λ _. put_close_fields.clauses)
+  pub put_close_fields : Exact put_close_fields.ended (λ _ _. put_close_fields.clauses)
   -- close_encode
-  pub write_forward_close : Exact write_forward_close.ended (λ _. write_forward_close.clauses)
+  pub write_forward_close : Exact write_forward_close.ended (λ _ _. write_forward_close.clauses)
   -- close_over
-  pub write_forward_close_over : Exact write_forward_close_over.ended (λ _. write_forward_close_over.clauses)
+  pub write_forward_close_over : Exact write_forward_close_over.ended (λ _ _. write_forward_close_over.clauses)
   -- request_sizes
-  pub message_size_lem : Exact message_size.ended (λ _. message_size.clauses)
-  pub unconnected_send_size : Exact unconnected_send_size.ended (λ _. unconnected_send_size.clauses)
+  pub message_size_lem : Exact message_size.ended (λ _ _. message_size.clauses)
+  pub unconnected_send_size : Exact unconnected_send_size.ended (λ _ _. unconnected_send_size.clauses)
   -- message_encode
-  pub write_message : Exact write_message.ended (λ _. write_message.clauses)
+  pub write_message : Exact write_message.ended (λ _ _. write_message.clauses)
   -- message_over
-  pub write_message_over : Exact write_message_over.ended (λ _. write_message_over.clauses)
+  pub write_message_over : Exact write_message_over.ended (λ _ _. write_message_over.clauses)
   -- send_fields
-  pub put_send_fields : Exact put_send_fields.ended (λ _. put_send_fields.clauses)
+  pub put_send_fields : Exact put_send_fields.ended (λ _ _. put_send_fields.clauses)
   -- send_encode
-  pub write_unconnected_send : Exact write_unconnected_send.ended (λ _. write_unconnected_send.clauses)
+  pub write_unconnected_send : Exact write_unconnected_send.ended (λ _ _. write_unconnected_send.clauses)
   -- send_over
-  pub write_unconnected_send_over : Exact write_unconnected_send_over.ended (λ _. write_unconnected_send_over.clauses)
+  pub write_unconnected_send_over : Exact write_unconnected_send_over.ended (λ _ _. write_unconnected_send_over.clauses)
   -- request_first
-  pub first_byte : Exact first_byte.ended (λ _. first_byte.clauses)
+  pub first_byte : Exact first_byte.ended (λ _ _. first_byte.clauses)
   -- message_read
-  pub read_message_lem : Exact read_message.ended (λ _. read_message.clauses)
-  pub route_at_lem : Exact route_at.ended (λ _. route_at.clauses)
-  pub padded_route_at_lem : Exact padded_route_at.ended (λ _. padded_route_at.clauses)
+  pub read_message_lem : Exact read_message.ended (λ _ _. read_message.clauses)
+  pub route_at_lem : Exact route_at.ended (λ _ _. route_at.clauses)
+  pub padded_route_at_lem : Exact padded_route_at.ended (λ _ _. padded_route_at.clauses)
   -- open_read
-  pub read_forward_open : Exact read_forward_open.ended (λ _. read_forward_open.clauses)
+  pub read_forward_open : Exact read_forward_open.ended (λ _ _. read_forward_open.clauses)
   -- close_read
-  pub read_forward_close : Exact read_forward_close.ended (λ _. read_forward_close.clauses)
+  pub read_forward_close : Exact read_forward_close.ended (λ _ _. read_forward_close.clauses)
   -- send_read
-  pub read_unconnected_send : Exact read_unconnected_send.ended (λ _. read_unconnected_send.clauses)
+  pub read_unconnected_send : Exact read_unconnected_send.ended (λ _ _. read_unconnected_send.clauses)
   -- statuses
-  pub is_ok_lem : Exact is_ok.ended (λ _. is_ok.clauses)
-  pub is_routing_error_lem : Exact is_routing_error.ended (λ _. is_routing_error.clauses)
+  pub is_ok_lem : Exact is_ok.ended (λ _ _. is_ok.clauses)
+  pub is_routing_error_lem : Exact is_routing_error.ended (λ _ _. is_routing_error.clauses)
   -- reply_header
-  pub read_reply_header : Exact read_reply_header.ended (λ _. read_reply_header.clauses)
+  pub read_reply_header : Exact read_reply_header.ended (λ _ _. read_reply_header.clauses)
   -- success_encode
-  pub write_forward_open_success : Exact write_forward_open_success.ended (λ _. write_forward_open_success.clauses)
-  pub write_forward_close_success : Exact write_forward_close_success.ended (λ _. write_forward_close_success.clauses)
+  pub write_forward_open_success : Exact write_forward_open_success.ended (λ _ _. write_forward_open_success.clauses)
+  pub write_forward_close_success : Exact write_forward_close_success.ended (λ _ _. write_forward_close_success.clauses)
   -- failure_encode
-  pub write_forward_failure : Exact write_forward_failure.ended (λ _. write_forward_failure.clauses)
+  pub write_forward_failure : Exact write_forward_failure.ended (λ _ _. write_forward_failure.clauses)
   -- reply_read
-  pub read_forward_open_reply : Exact read_forward_open_reply.ended (λ _. read_forward_open_reply.clauses)
-  pub read_forward_close_reply : Exact read_forward_close_reply.ended (λ _. read_forward_close_reply.clauses)
+  pub read_forward_open_reply : Exact read_forward_open_reply.ended (λ _ _. read_forward_open_reply.clauses)
+  pub read_forward_close_reply : Exact read_forward_close_reply.ended (λ _ _. read_forward_close_reply.clauses)
   -- envelope
-  pub read_envelope_lem : Exact read_envelope.ended (λ _. read_envelope.clauses)
+  pub read_envelope_lem : Exact read_envelope.ended (λ _ _. read_envelope.clauses)
   -- frames
-  pub reset_state_lem : Exact reset_state.ended (λ _. reset_state.clauses)
-  pub step : Exact step.ended (λ _. step.clauses)
-  pub take_scrap : Exact take_scrap.ended (λ _. take_scrap.clauses)
-  pub reset : Exact reset.ended (λ _. reset.clauses)
+  pub reset_state_lem : Exact reset_state.ended (λ _ _. reset_state.clauses)
+  pub step : Exact step.ended (λ _ _. step.clauses)
+  pub take_scrap : Exact take_scrap.ended (λ _ _. take_scrap.clauses)
+  pub reset : Exact reset.ended (λ _ _. reset.clauses)
   -- body_sizes
-  pub body_size_lem : Exact body_size.ended (λ _. body_size.clauses)
+  pub body_size_lem : Exact body_size.ended (λ _ _. body_size.clauses)
   -- body_encode
-  pub write_body : Exact write_body.ended (λ _. write_body.clauses)
+  pub write_body : Exact write_body.ended (λ _ _. write_body.clauses)
   -- body_read
-  pub read_body_lem : Exact read_body.ended (λ _. read_body.clauses)
+  pub read_body_lem : Exact read_body.ended (λ _ _. read_body.clauses)
   -- body_items
-  pub walk_item_lem : Exact walk_item.ended (λ _. walk_item.clauses)
-  pub body_item_lem : Exact body_item.ended (λ _. body_item.clauses)
+  pub walk_item_lem : Exact walk_item.ended (λ _ _. walk_item.clauses)
+  pub body_item_lem : Exact body_item.ended (λ _ _. body_item.clauses)
   -- body_replies
-  pub walk_reply_lem : Exact walk_reply.ended (λ _. walk_reply.clauses)
-  pub reply_item : Exact reply_item.ended (λ _. reply_item.clauses)
+  pub walk_reply_lem : Exact walk_reply.ended (λ _ _. walk_reply.clauses)
+  pub reply_item : Exact reply_item.ended (λ _ _. reply_item.clauses)
   -- body_join
-  pub join_bodies : Exact join_bodies.ended (λ _. join_bodies.clauses)
+  pub join_bodies : Exact join_bodies.ended (λ _ _. join_bodies.clauses)
   -- nested
-  pub read_nested : Exact read_nested.ended (λ _. read_nested.clauses)
+  pub read_nested : Exact read_nested.ended (λ _ _. read_nested.clauses)
   -- dump_text
-  pub write_dump : Exact write_dump.ended (λ _. write_dump.clauses)
+  pub write_dump : Exact write_dump.ended (λ _ _. write_dump.clauses)
   -- c_answers
-  pub refusal_answer : Exact refusal_answer.ended (λ _. refusal_answer.clauses)
-  pub size_answer : Exact size_answer.ended (λ _. size_answer.clauses)
-  pub count_answer : Exact count_answer.ended (λ _. count_answer.clauses)
-  pub fill : Exact fill.ended (λ _. fill.clauses)
+  pub refusal_answer : Exact refusal_answer.ended (λ _ _. refusal_answer.clauses)
+  pub size_answer : Exact size_answer.ended (λ _ _. size_answer.clauses)
+  pub count_answer : Exact count_answer.ended (λ _ _. count_answer.clauses)
+  pub fill : Exact fill.ended (λ _ _. fill.clauses)
   -- route_written
-  pub written_route_lem : Exact written_route.ended (λ _. written_route.clauses)
-  pub written_record : Exact written_record.ended (λ _. written_record.clauses)
+  pub written_route_lem : Exact written_route.ended (λ _ _. written_route.clauses)
+  pub written_record : Exact written_record.ended (λ _ _. written_record.clauses)
   -- c_paths
-  pub bark_path_size : Exact bark_path_size.ended (λ _. bark_path_size.clauses)
-  pub bark_write_path : Exact bark_write_path.ended (λ _. bark_write_path.clauses)
+  pub bark_path_size : Exact bark_path_size.ended (λ _ _. bark_path_size.clauses)
+  pub bark_write_path : Exact bark_write_path.ended (λ _ _. bark_write_path.clauses)
   -- c_path_checks
-  pub bark_check_path : Exact bark_check_path.ended (λ _. bark_check_path.clauses)
+  pub bark_check_path : Exact bark_check_path.ended (λ _ _. bark_check_path.clauses)
   -- c_path_reads
-  pub bark_read_path : Exact bark_read_path.ended (λ _. bark_read_path.clauses)
+  pub bark_read_path : Exact bark_read_path.ended (λ _ _. bark_read_path.clauses)
   -- c_messages
-  pub bark_write_message : Exact bark_write_message.ended (λ _. bark_write_message.clauses)
-  pub bark_read_message : Exact bark_read_message.ended (λ _. bark_read_message.clauses)
+  pub bark_write_message : Exact bark_write_message.ended (λ _ _. bark_write_message.clauses)
+  pub bark_read_message : Exact bark_read_message.ended (λ _ _. bark_read_message.clauses)
   -- c_sends
-  pub bark_write_unconnected_send : Exact bark_write_unconnected_send.ended (λ _. bark_write_unconnected_send.clauses)
-  pub bark_read_unconnected_send : Exact bark_read_unconnected_send.ended (λ _. bark_read_unconnected_send.clauses)
+  pub bark_write_unconnected_send : Exact bark_write_unconnected_send.ended (λ _ _. bark_write_unconnected_send.clauses)
+  pub bark_read_unconnected_send : Exact bark_read_unconnected_send.ended (λ _ _. bark_read_unconnected_send.clauses)
   -- c_forward_words
-  pub bark_encode_parameters : Exact bark_encode_parameters.ended (λ _. bark_encode_parameters.clauses)
-  pub bark_decode_parameters : Exact bark_decode_parameters.ended (λ _. bark_decode_parameters.clauses)
+  pub bark_encode_parameters : Exact bark_encode_parameters.ended (λ _ _. bark_encode_parameters.clauses)
+  pub bark_decode_parameters : Exact bark_decode_parameters.ended (λ _ _. bark_decode_parameters.clauses)
   -- c_transport_words
-  pub bark_encode_transport : Exact bark_encode_transport.ended (λ _. bark_encode_transport.clauses)
-  pub bark_decode_transport : Exact bark_decode_transport.ended (λ _. bark_decode_transport.clauses)
+  pub bark_encode_transport : Exact bark_encode_transport.ended (λ _ _. bark_encode_transport.clauses)
+  pub bark_decode_transport : Exact bark_decode_transport.ended (λ _ _. bark_decode_transport.clauses)
   -- c_opens
-  pub bark_read_forward_open : Exact bark_read_forward_open.ended (λ _. bark_read_forward_open.clauses)
-  pub bark_default_forward_open : Exact bark_default_forward_open.ended (λ _. bark_default_forward_open.clauses)
+  pub bark_read_forward_open : Exact bark_read_forward_open.ended (λ _ _. bark_read_forward_open.clauses)
+  pub bark_default_forward_open : Exact bark_default_forward_open.ended (λ _ _. bark_default_forward_open.clauses)
   -- c_open_writes
-  pub bark_write_forward_open : Exact bark_write_forward_open.ended (λ _. bark_write_forward_open.clauses)
+  pub bark_write_forward_open : Exact bark_write_forward_open.ended (λ _ _. bark_write_forward_open.clauses)
   -- c_closes
-  pub bark_read_forward_close : Exact bark_read_forward_close.ended (λ _. bark_read_forward_close.clauses)
-  pub bark_write_forward_close : Exact bark_write_forward_close.ended (λ _. bark_write_forward_close.clauses)
+  pub bark_read_forward_close : Exact bark_read_forward_close.ended (λ _ _. bark_read_forward_close.clauses)
+  pub bark_write_forward_close : Exact bark_write_forward_close.ended (λ _ _. bark_write_forward_close.clauses)
   -- c_reply_numbers
-  pub reply_numbers_lem : Exact reply_numbers.ended (λ _. reply_numbers.clauses)
+  pub reply_numbers_lem : Exact reply_numbers.ended (λ _ _. reply_numbers.clauses)
   -- c_replies
-  pub bark_read_reply : Exact bark_read_reply.ended (λ _. bark_read_reply.clauses)
+  pub bark_read_reply : Exact bark_read_reply.ended (λ _ _. bark_read_reply.clauses)
   -- c_statuses
-  pub status_of_lem : Exact status_of.ended (λ _. status_of.clauses)
-  pub bark_is_routing_error : Exact bark_is_routing_error.ended (λ _. bark_is_routing_error.clauses)
+  pub status_of_lem : Exact status_of.ended (λ _ _. status_of.clauses)
+  pub bark_is_routing_error : Exact bark_is_routing_error.ended (λ _ _. bark_is_routing_error.clauses)
   -- c_envelope
-  pub bark_read_envelope : Exact bark_read_envelope.ended (λ _. bark_read_envelope.clauses)
+  pub bark_read_envelope : Exact bark_read_envelope.ended (λ _ _. bark_read_envelope.clauses)
   -- c_frames
-  pub bark_take_scrap : Exact bark_take_scrap.ended (λ _. bark_take_scrap.clauses)
+  pub bark_take_scrap : Exact bark_take_scrap.ended (λ _ _. bark_take_scrap.clauses)
   -- c_failure_numbers
-  pub failure_numbers_lem : Exact failure_numbers.ended (λ _. failure_numbers.clauses)
+  pub failure_numbers_lem : Exact failure_numbers.ended (λ _ _. failure_numbers.clauses)
   -- c_open_replies
-  pub bark_read_forward_open_reply : Exact bark_read_forward_open_reply.ended (λ _. bark_read_forward_open_reply.clauses)
+  pub bark_read_forward_open_reply : Exact bark_read_forward_open_reply.ended (λ _ _. bark_read_forward_open_reply.clauses)
   -- c_close_replies
-  pub bark_read_forward_close_reply : Exact bark_read_forward_close_reply.ended (λ _. bark_read_forward_close_reply.clauses)
+  pub bark_read_forward_close_reply : Exact bark_read_forward_close_reply.ended (λ _ _. bark_read_forward_close_reply.clauses)
   -- c_reply_writes
-  pub bark_write_forward_open_success : Exact bark_write_forward_open_success.ended (λ _. bark_write_forward_open_success.clauses)
-  pub bark_write_forward_close_success : Exact bark_write_forward_close_success.ended (λ _. bark_write_forward_close_success.clauses)
+  pub bark_write_forward_open_success : Exact bark_write_forward_open_success.ended (λ _ _. bark_write_forward_open_success.clauses)
+  pub bark_write_forward_close_success : Exact bark_write_forward_close_success.ended (λ _ _. bark_write_forward_close_success.clauses)
   -- c_failure_writes
-  pub bark_write_forward_failure : Exact bark_write_forward_failure.ended (λ _. bark_write_forward_failure.clauses)
+  pub bark_write_forward_failure : Exact bark_write_forward_failure.ended (λ _ _. bark_write_forward_failure.clauses)
   -- c_bodies
-  pub bark_write_body : Exact bark_write_body.ended (λ _. bark_write_body.clauses)
-  pub bark_join_bodies : Exact bark_join_bodies.ended (λ _. bark_join_bodies.clauses)
+  pub bark_write_body : Exact bark_write_body.ended (λ _ _. bark_write_body.clauses)
+  pub bark_join_bodies : Exact bark_join_bodies.ended (λ _ _. bark_join_bodies.clauses)
   -- c_body_reads
-  pub bark_read_body : Exact bark_read_body.ended (λ _. bark_read_body.clauses)
-  pub bark_body_item : Exact bark_body_item.ended (λ _. bark_body_item.clauses)
-  pub bark_walk_item : Exact bark_walk_item.ended (λ _. bark_walk_item.clauses)
+  pub bark_read_body : Exact bark_read_body.ended (λ _ _. bark_read_body.clauses)
+  pub bark_body_item : Exact bark_body_item.ended (λ _ _. bark_body_item.clauses)
+  pub bark_walk_item : Exact bark_walk_item.ended (λ _ _. bark_walk_item.clauses)
   -- c_body_replies
-  pub bark_reply_item : Exact bark_reply_item.ended (λ _. bark_reply_item.clauses)
-  pub bark_walk_reply : Exact bark_walk_reply.ended (λ _. bark_walk_reply.clauses)
+  pub bark_reply_item : Exact bark_reply_item.ended (λ _ _. bark_reply_item.clauses)
+  pub bark_walk_reply : Exact bark_walk_reply.ended (λ _ _. bark_walk_reply.clauses)
   -- c_reply_walk
-  pub bark_read_replies : Exact bark_read_replies.ended (λ _. bark_read_replies.clauses)
+  pub bark_read_replies : Exact bark_read_replies.ended (λ _ _. bark_read_replies.clauses)
   -- c_nested
-  pub bark_read_nested : Exact bark_read_nested.ended (λ _. bark_read_nested.clauses)
+  pub bark_read_nested : Exact bark_read_nested.ended (λ _ _. bark_read_nested.clauses)
 
 pub claims : Claims
 claims =

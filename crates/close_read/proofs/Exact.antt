@@ -16,5 +16,5 @@ close_one =
 
 -- ---- the reader
 
-pub read_forward_close_exact : Exact read_forward_close.ended (λ _. read_forward_close.clauses)
+pub read_forward_close_exact : Exact read_forward_close.ended (λ _ _. read_forward_close.clauses)
 read_forward_close_exact = exact (λ w κs a. (tt, λ m. tt)) (λ w κs a g z e. search says) (λ t. (close_one t.z t.z' (same t.said t.said'), refl))

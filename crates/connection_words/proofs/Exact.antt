@@ -21,8 +21,8 @@ parameters_one = one_by paper_parameters (from_paper FoundParameters NoParameter
 
 -- ---- the fields
 
-pub encode_parameters_exact : Exact encode_parameters.ended (λ _. encode_parameters.clauses)
+pub encode_parameters_exact : Exact encode_parameters.ended (λ _ _. encode_parameters.clauses)
 encode_parameters_exact = exact (λ w κs a. (tt, λ m. tt)) (λ w κs a g z e. search says) (λ t. (word_one t.z t.z' (same t.said t.said'), refl))
 
-pub decode_parameters_exact : Exact decode_parameters.ended (λ _. decode_parameters.clauses)
+pub decode_parameters_exact : Exact decode_parameters.ended (λ _ _. decode_parameters.clauses)
 decode_parameters_exact = exact (λ w κs a. (tt, λ m. tt)) (λ w κs a g z e. search says) (λ t. (parameters_one t.z t.z' (same t.said t.said'), refl))

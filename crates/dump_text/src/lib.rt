@@ -1,4 +1,5 @@
 // What the dump program prints: a line for each message, or the number of the refusal. The text goes into lent bytes.
+#![tactic(auto)]
 mod words; // words.rt: numbers as text
 
 ghost use Rattle.std.specs.Prelude.{◌≡◌, ◌*◌, ◌≤◌, length, get_or};
@@ -96,8 +97,8 @@ fn write_by(s: &[u8], rows: &mut [u16], out: &mut [u8]) -> Wrote
 
 // Writes the text of a message; that of a refused one says so.
 pub fn write_dump(s: &[u8], out: &mut [u8]) -> Wrote
-    ensures result_value { paper_size result ≡ text_answer s.now (length out.old) }
-    ensures out_after { out.new ≡ text_over s.now out.old }
+    ensures answer { paper_size result ≡ text_answer s.now (length out.old) }
+    ensures bytes { out.new ≡ text_over s.now out.old }
 {
     let mut rows = [0u16; MAX_NUMBERS];
     write_by(s, &mut rows, out)

@@ -14,5 +14,5 @@ envelope_one =
     one_by paper_envelope (from_paper (elim [ unconnected k n ↦ Unconnected k n | connected c k n ↦ Connected c k n ]) Refused)
     (elim [ Unconnected k n ↦ refl | Connected c k n ↦ refl | Refused e ↦ ap Refused (number_back e) ])
 
-pub read_envelope_exact : Exact read_envelope.ended (λ _. read_envelope.clauses)
+pub read_envelope_exact : Exact read_envelope.ended (λ _ _. read_envelope.clauses)
 read_envelope_exact = exact (λ w κs a. (tt, λ m. tt)) (λ w κs a g z e. search says) (λ t. (envelope_one t.z t.z' (same t.said t.said'), refl))

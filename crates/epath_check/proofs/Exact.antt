@@ -4,5 +4,5 @@ use Rattle.exact.specs.Exact.{Exact, exact, says, same}
 use Rattle.wire.proofs.Answers.{count_one}
 use Rattle.epath_check.specs.contracts.check_path
 
-pub check_path_exact : Exact check_path.ended (λ _. check_path.clauses)
+pub check_path_exact : Exact check_path.ended (λ _ _. check_path.clauses)
 check_path_exact = exact (λ w κs a. (tt, λ m. tt)) (λ w κs a g z e. search says) (λ t. (count_one t.z t.z' (same t.said t.said'), refl))

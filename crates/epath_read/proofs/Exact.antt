@@ -15,5 +15,5 @@ path_one a b h =
     let q : a.path ≡ b.path = ap (λ (x : PathFound). x.path) h in
     ap (λ (x : Counted). record { answer = x; path = a.path }) p ∙ ap (λ (y : Path). record { answer = b.answer; path = y }) q
 
-pub read_path_exact : Exact read_path.ended (λ _. read_path.clauses)
+pub read_path_exact : Exact read_path.ended (λ _ _. read_path.clauses)
 read_path_exact = exact (λ w κs a. (tt, λ m. tt)) (λ w κs a g z e. search says) (λ t. (path_one t.z t.z' (same t.said t.said'), refl))

@@ -12,5 +12,5 @@ pub front_one : (a b : SegmentRead) → paper_front a ≡ paper_front b → a �
 front_one =
     one_by paper_front (from_paper (elim [ front x n ↦ Found x n ]) Refused) (elim [ Found x n ↦ refl | Refused e ↦ ap Refused (number_back e) ])
 
-pub read_segment_exact : Exact read_segment.ended (λ _. read_segment.clauses)
+pub read_segment_exact : Exact read_segment.ended (λ _ _. read_segment.clauses)
 read_segment_exact = exact (λ w κs a. (tt, λ m. tt)) (λ w κs a g z e. search says) (λ t. (front_one t.z t.z' (same t.said t.said'), refl))

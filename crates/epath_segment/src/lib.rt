@@ -1,4 +1,5 @@
 // One segment of a path, read strictly.
+#![tactic(auto)]
 mod decode; // decode.rt: the reader
 
 pub use decode::read_segment;

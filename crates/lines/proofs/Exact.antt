@@ -5,8 +5,8 @@ use Rattle.exact.specs.Exact.{Exact, exact, says, same}
 use Rattle.lines.specs.contracts.blank_line
 use Rattle.lines.specs.contracts.line_case
 
-pub blank_line_exact : Exact blank_line.ended (λ _. blank_line.clauses)
+pub blank_line_exact : Exact blank_line.ended (λ _ _. blank_line.clauses)
 blank_line_exact = exact (λ w κs a. (tt, λ m. tt)) (λ w κs a g z e. search says) (λ t. (same t.said t.said', refl))
 
-pub line_case_exact : Exact line_case.ended (λ _. line_case.clauses)
+pub line_case_exact : Exact line_case.ended (λ _ _. line_case.clauses)
 line_case_exact = exact (λ w κs a. (tt, λ m. tt)) (λ w κs a g z e. search says) (λ t. (same t.said t.said', refl))

@@ -17,11 +17,11 @@ message_one = one_by paper_message (from_paper FoundMessage NoMessage) (elim [ F
 
 -- ---- readers
 
-pub read_message_exact : Exact read_message.ended (λ _. read_message.clauses)
+pub read_message_exact : Exact read_message.ended (λ _ _. read_message.clauses)
 read_message_exact = exact (λ w κs a. (tt, λ m. tt)) (λ w κs a g z e. search says) (λ t. (message_one t.z t.z' (same t.said t.said'), refl))
 
-pub route_at_exact : Exact route_at.ended (λ _. route_at.clauses)
+pub route_at_exact : Exact route_at.ended (λ _ _. route_at.clauses)
 route_at_exact = exact (λ w κs a. (tt, λ m. tt)) (λ w κs a g z e. search says) (λ t. (count_one t.z t.z' (same t.said t.said'), refl))
 
-pub padded_route_at_exact : Exact padded_route_at.ended (λ _. padded_route_at.clauses)
+pub padded_route_at_exact : Exact padded_route_at.ended (λ _ _. padded_route_at.clauses)
 padded_route_at_exact = exact (λ w κs a. (tt, λ m. tt)) (λ w κs a g z e. search says) (λ t. (count_one t.z t.z' (same t.said t.said'), refl))

@@ -1,6 +1,7 @@
 // A message request is read here, and what the readers of requests share, the path behind a size byte. rseip-cip has no such readers: they are
 // added. A reader answers the record, and its parts as starts and lengths in the input; the path is judged here and its segments are read from
 // that part.
+#![tactic(auto)]
 mod message; // message.rt: the message request
 mod route; // route.rt: what requests share, the path behind a size byte
 

@@ -16,5 +16,5 @@ open_one =
 
 -- ---- the reader
 
-pub read_forward_open_exact : Exact read_forward_open.ended (λ _. read_forward_open.clauses)
+pub read_forward_open_exact : Exact read_forward_open.ended (λ _ _. read_forward_open.clauses)
 read_forward_open_exact = exact (λ w κs a. (tt, λ m. tt)) (λ w κs a g z e. search says) (λ t. (open_one t.z t.z' (same t.said t.said'), refl))

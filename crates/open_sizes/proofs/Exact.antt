@@ -4,5 +4,5 @@ use Rattle.exact.specs.Exact.{Exact, exact, says, same}
 use Rattle.wire.proofs.Answers.{size_one}
 use Rattle.open_sizes.specs.contracts.forward_open_size
 
-pub forward_open_size_exact : Exact forward_open_size.ended (λ _. forward_open_size.clauses)
+pub forward_open_size_exact : Exact forward_open_size.ended (λ _ _. forward_open_size.clauses)
 forward_open_size_exact = exact (λ w κs a. (tt, λ m. tt)) (λ w κs a g z e. search says) (λ t. (size_one t.z t.z' (same t.said t.said'), refl))

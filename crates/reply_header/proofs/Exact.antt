@@ -12,5 +12,5 @@ use Rattle.reply_header.specs.contracts.read_reply_header
 pub reply_one : (a b : ReplyRead) → paper_reply a ≡ paper_reply b → a ≡ b
 reply_one = one_by paper_reply (from_paper Found Refused) (elim [ Found x ↦ refl | Refused e ↦ ap Refused (number_back e) ])
 
-pub read_reply_header_exact : Exact read_reply_header.ended (λ _. read_reply_header.clauses)
+pub read_reply_header_exact : Exact read_reply_header.ended (λ _ _. read_reply_header.clauses)
 read_reply_header_exact = exact (λ w κs a. (tt, λ m. tt)) (λ w κs a g z e. search says) (λ t. (reply_one t.z t.z' (same t.said t.said'), refl))

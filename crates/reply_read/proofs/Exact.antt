@@ -25,8 +25,8 @@ close_reply_one =
 
 -- ---- readers
 
-pub read_forward_open_reply_exact : Exact read_forward_open_reply.ended (λ _. read_forward_open_reply.clauses)
+pub read_forward_open_reply_exact : Exact read_forward_open_reply.ended (λ _ _. read_forward_open_reply.clauses)
 read_forward_open_reply_exact = exact (λ w κs a. (tt, λ m. tt)) (λ w κs a g z e. search says) (λ t. (open_reply_one t.z t.z' (same t.said t.said'), refl))
 
-pub read_forward_close_reply_exact : Exact read_forward_close_reply.ended (λ _. read_forward_close_reply.clauses)
+pub read_forward_close_reply_exact : Exact read_forward_close_reply.ended (λ _ _. read_forward_close_reply.clauses)
 read_forward_close_reply_exact = exact (λ w κs a. (tt, λ m. tt)) (λ w κs a g z e. search says) (λ t. (close_reply_one t.z t.z' (same t.said t.said'), refl))

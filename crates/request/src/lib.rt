@@ -1,6 +1,7 @@
 // Requests, whole: sizes, writers and readers handed on from the crates below. A message, Forward Open (small and large), Forward Close and
 // Unconnected Send.
 // A reader answers the record, and its parts as starts and lengths in the input; the path is judged and its segments are read from that part.
+#![tactic(auto)]
 pub use close_encode::write_forward_close;
 pub use close_read::{CloseRead, read_forward_close};
 pub use close_sizes::forward_close_size;

@@ -15,5 +15,5 @@ judged_one = one_by paper_judged (from_paper (λ _. Kept) Broken) (elim [ Kept �
 
 -- ---- the reader
 
-pub first_byte_exact : Exact first_byte.ended (λ _. first_byte.clauses)
+pub first_byte_exact : Exact first_byte.ended (λ _ _. first_byte.clauses)
 first_byte_exact = exact (λ w κs a. (tt, λ m. tt)) (λ w κs a g z e. search says) (λ t. (judged_one t.z t.z' (same t.said t.said'), refl))

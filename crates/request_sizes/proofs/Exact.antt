@@ -6,8 +6,8 @@ use Rattle.wire.proofs.Answers.{size_one}
 use Rattle.request_sizes.specs.contracts.message.message_size
 use Rattle.request_sizes.specs.contracts.send.unconnected_send_size
 
-pub message_size_exact : Exact message_size.ended (λ _. message_size.clauses)
+pub message_size_exact : Exact message_size.ended (λ _ _. message_size.clauses)
 message_size_exact = exact (λ w κs a. (tt, λ m. tt)) (λ w κs a g z e. search says) (λ t. (size_one t.z t.z' (same t.said t.said'), refl))
 
-pub unconnected_send_size_exact : Exact unconnected_send_size.ended (λ _. unconnected_send_size.clauses)
+pub unconnected_send_size_exact : Exact unconnected_send_size.ended (λ _ _. unconnected_send_size.clauses)
 unconnected_send_size_exact = exact (λ w κs a. (tt, λ m. tt)) (λ w κs a g z e. search says) (λ t. (size_one t.z t.z' (same t.said t.said'), refl))

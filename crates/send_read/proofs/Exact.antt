@@ -16,5 +16,5 @@ send_one =
 
 -- ---- the reader
 
-pub read_unconnected_send_exact : Exact read_unconnected_send.ended (λ _. read_unconnected_send.clauses)
+pub read_unconnected_send_exact : Exact read_unconnected_send.ended (λ _ _. read_unconnected_send.clauses)
 read_unconnected_send_exact = exact (λ w κs a. (tt, λ m. tt)) (λ w κs a g z e. search says) (λ t. (send_one t.z t.z' (same t.said t.said'), refl))

@@ -18,8 +18,8 @@ transport_one =
 
 -- ---- the byte
 
-pub transport_class_trigger_exact : Exact transport_class_trigger.ended (λ _. transport_class_trigger.clauses)
+pub transport_class_trigger_exact : Exact transport_class_trigger.ended (λ _ _. transport_class_trigger.clauses)
 transport_class_trigger_exact = exact (λ w κs a. (tt, λ m. tt)) (λ w κs a g z e. search says) (λ t. (same t.said t.said', refl))
 
-pub transport_of_exact : Exact transport_of.ended (λ _. transport_of.clauses)
+pub transport_of_exact : Exact transport_of.ended (λ _ _. transport_of.clauses)
 transport_of_exact = exact (λ w κs a. (tt, λ m. tt)) (λ w κs a g z e. search says) (λ t. (transport_one t.z t.z' (same t.said t.said'), refl))

@@ -1,4 +1,5 @@
 // Class and trigger of a Forward Open: direction, trigger and class in one byte.
+#![tactic(auto)]
 mod codes; // codes.rt: the enums as numbers, and back
 mod fields; // fields.rt: the byte
 
