@@ -6,8 +6,8 @@
 For each of the four a line of counts, and behind it, crate by crate, the names of all that is not unchanged:
   - definitions: each declaration in crates/*/specs/, whole, with the heads of the sections (`module _ .. where`) that it stands in
   - contracts: each `pub fn` and `pub extern "C" fn` in crates/*/src/, from its name to its body
-  - laws by hand: each declaration in crates/*/proofs/, whole, and each Proof.antt that is no laid one, as one
-  - laid proofs: each Proof.antt with a recipe (`--:`, see tools/prove.py), or in which every need is answered `search needs`
+  - laws by hand: each declaration in crates/*/proofs/, whole, and each function's proof file that is no laid one, as one
+  - laid proofs: each Answers.antt and Invariants.antt with a recipe (`--:`, see tools/prove.py)
 
 `moved` is the same text under the same name in another crate, `a -> b`. `moved and changed` goes by the name alone, where one crate lost it
 and one got it: it may be two things. What was renamed is `removed` and `new`. Text is compared without comments, white space, imports and
@@ -39,7 +39,7 @@ def files(commit):
 
 def plain(text):
     """The text as it is compared."""
-    text = re.sub(r"Rattle·\w+(·specs|·proofs)?\.", "Rattle.", text)
+    text = re.sub(r"Rattle[·.]\w+(·specs|·proofs)?\.", "Rattle.", text)
     text = re.sub(r"\b(?:[a-z]\w*::)+", "", text)
     text = re.sub(r"\s+", " ", text)
     return re.sub(r"[,;]? ?([)}\]])", r"\1", re.sub(r"([({\[]) ", r"\1", text)).strip()  # a broken line ends its list in a comma
@@ -82,7 +82,7 @@ def contracts(text):
 
 
 def proof(text):
-    """Whether it is laid, and the text of a Proof.antt: the recipe and the rest, without imports."""
+    """Whether it is laid, and the text of a function's proof file: the recipe and the rest, without imports."""
     lines = [line for line in text.split("\n") if line.startswith("--: ") or not line.startswith("--")]
     recipe = any(line.startswith("--: ") for line in lines)
     answers = re.findall(r"^(?!pub )\S+(?: \S+)* =\s+(.*)$", text.split("\npub ")[0], re.M)
@@ -95,7 +95,7 @@ def things(commit):
     found = {kind: collections.defaultdict(list) for kind in KINDS}
     for path, text in files(commit):
         _, crate, part, *rest = path.split("/")
-        if rest[-1] == "Proof.antt" and part == "proofs":
+        if rest[-1] in ("Proof.antt", "Answers.antt", "Invariants.antt") and part == "proofs":
             laid, whole = proof(text)
             named = [(LAID if laid else LAWS, rest[-2], whole)]
         elif path.endswith(".rt"):

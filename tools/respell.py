@@ -113,7 +113,9 @@ if double:
 
 
 def turn(text, names=names):
-    return re.sub(TOKEN, lambda m: names.get(m[0], m[0]), text)
+    """The text with the names turned, but for those that it imports from the library."""
+    theirs = {n.strip() for m in re.finditer(r"^use ([\w.'+-]+)\.\{([^}]*)\}", text, re.M) if not m[1].startswith("Rattle.") for n in m[2].split(",")}
+    return re.sub(TOKEN, lambda m: m[0] if m[0] in theirs else names.get(m[0], m[0]), text)
 
 
 def outside_strings(text):

@@ -17,7 +17,7 @@ pub const SEG: usize = 13;
 const OUT: usize = usize::MAX;
 
 // A byte string: where its bytes are, and where the next field begins.
-#[derive(Drop)]
+#[derive(Clone, Copy)]
 pub struct StringField {
     pub start: usize,
     pub len: usize,
@@ -25,14 +25,14 @@ pub struct StringField {
 }
 
 // A segment, or none that can be asked for.
-#[derive(Drop)]
+#[derive(Clone, Copy)]
 pub enum Taken {
     Good(Segment),
     Bad,
 }
 
 // A list: where its segments are, how many, and where the next field begins.
-#[derive(Drop)]
+#[derive(Clone, Copy)]
 pub struct ListField {
     pub start: usize,
     pub count: usize,

@@ -13,6 +13,7 @@ mod nests; // nests.rt: operation 40
 mod scraps; // scraps.rt: operation 50
 
 use lines::{Case, Line};
+use std::io::Read;
 
 // Bytes of the longest case.
 const MAX_CASE: usize = lines::MAX_DIGITS / 2;
@@ -102,27 +103,26 @@ fn feed(chunk: &[u8], line: Line, case: &mut [u8], reply: &mut [u8], text: &mut 
     l
 }
 
-// A proved loop has to end, and nothing says that the input does. So the turns are counted down from a number that no run uses up.
+// A proved loop has to end, and nothing says that the input does. So the turns are counted, and no run uses them up.
 // A last line without a newline is answered too.
-fn run(chunk: &mut [u8], case: &mut [u8], reply: &mut [u8], text: &mut [u8]) {
+fn run(rt: &HostRuntime, chunk: &mut [u8], case: &mut [u8], reply: &mut [u8], text: &mut [u8]) -> std::io::Result<()> {
+    let mut input = rt.stdin();
     let mut line = lines::blank_line();
-    let mut turns = u64::MAX;
-    while turns > 0 {
-        let got = libc::read(0, chunk);
-        let n = io::count(got, chunk);
+    for _ in 0..u64::MAX {
+        let n = input.read(chunk)?;
         if n == 0 {
             finish(line, case, reply, text);
-            return;
+            return Ok(());
         }
-        line = feed(&chunk[..n], line, case, reply, text);
-        turns -= 1;
+        line = feed(wire_read::part_of(chunk, 0, n), line, case, reply, text);
     }
+    Ok(())
 }
 
-fn main() {
+fn main(rt: HostRuntime) -> std::io::Result<()> {
     let mut chunk = io::large_buffer();
     let mut case = [0u8; MAX_CASE];
     let mut reply = [0u8; MAX_REPLY];
     let mut text = [0u8; 2 * MAX_REPLY + 1];
-    run(&mut chunk, &mut case, &mut reply, &mut text);
+    run(&rt, &mut chunk, &mut case, &mut reply, &mut text)
 }

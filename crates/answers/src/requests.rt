@@ -6,7 +6,7 @@ use crate::{connections, fields, said};
 use connection::{ForwardCloseRequest, OpenOptions, UnconnectedSend};
 
 // The path of a writer's case, and where its output ends: the last three fields, POOL, LIST and ROOM.
-#[derive(Drop)]
+#[derive(Clone, Copy)]
 pub struct PathField {
     pub pool: StringField,
     pub list: ListField,

@@ -10,13 +10,13 @@ use body_read::read_body;
 use wire::{Counted, Refusal};
 
 // A part of the body.
-#[derive(Drop)]
+#[derive(Clone, Copy)]
 pub struct Item {
     pub start: usize,
     pub len: usize,
 }
 
-#[derive(Drop)]
+#[derive(Clone, Copy)]
 pub enum ItemRead {
     Found(Item),
     Refused(Refusal),

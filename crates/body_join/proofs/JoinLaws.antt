@@ -3,7 +3,7 @@ use Prim.Native.Nat.{ℕ, zero, suc, ◌+◌, ◌*◌, ◌-◌, ◌≤◌, ◌<�
 use mathlib.Core.Path.{◌≡◌, refl, sym, ap, ◌∙◌}
 use mathlib.Core.List.{List, ◌∷◌, ◌++◌, map, map-append, append_assoc}
 use native.Mathlib.Omega.{arith}
-use lib.ListN.{length, drop, length-append, length-drop, length_map}
+use lib.ListN.{length, drop, length-append, length-drop, length-map}
 use lib.Seq.{sets, length-sets}
 use mir.Val.{Fits}
 use mir.Syntax.{w16, w64}
@@ -170,7 +170,7 @@ length_offsets (suc m) s k = ap suc (length_offsets m s (k + 1))
 
 length_moved : (m : ℕ) (s : List ℕ) (by : ℕ) → length (joined two_bytes (raised by (offsets_from m s 0))) ≡ 2 * m
 length_moved m s by =
-    length_two (raised by (offsets_from m s 0)) ∙ ap (λ (k : ℕ). 2 * k) (length_map (offsets_from m s 0) (λ (v : ℕ). v + by) ∙ length_offsets m s 0)
+    length_two (raised by (offsets_from m s 0)) ∙ ap (λ (k : ℕ). 2 * k) (length-map (offsets_from m s 0) (λ (v : ℕ). v + by) ∙ length_offsets m s 0)
 
 module _ (a b : List ℕ) (u : Joinable a b) where
   one : Accepted a (count_at a)
@@ -214,8 +214,8 @@ module _ (a b : List ℕ) (u : Joinable a b) where
       ∙ omega (
         arith,
         length-append moved after,
-        length_map (offsets_from (count_at a) a 0) (λ (v : ℕ). v + 2 * count_at b),
-        length_map (offsets_from (count_at b) b 0) (λ (v : ℕ). v + (length a - 2)),
+        length-map (offsets_from (count_at a) a 0) (λ (v : ℕ). v + 2 * count_at b),
+        length-map (offsets_from (count_at b) b 0) (λ (v : ℕ). v + (length a - 2)),
         length_offsets (count_at a) a 0,
         length_offsets (count_at b) b 0,
       )
@@ -264,7 +264,10 @@ module _ (a b : List ℕ) (u : Joinable a b) where
         let s3 : o3 ≡ sets old 0 ((c ++ joined two_bytes t1) ++ joined two_bytes t2) = sets_onto old o2 o3 (c ++ joined two_bytes t1) (joined two_bytes t2) 0 (2 + 2 * m) s2 (omega (arith, l2)) e3 in
         let j : (c ++ joined two_bytes t1) ++ joined two_bytes t2 ≡ joined two_bytes ((m + n) ∷ (t1 ++ t2))
         = append_assoc c (joined two_bytes t1) (joined two_bytes t2) ∙ ap (λ (l : List ℕ). c ++ l) (sym (joined_append two_bytes t1 t2)) in
-        s3 ∙ ap (λ (l : List ℕ). sets old 0 l) j ∙ rw (first, second) refl
+        s3
+        ∙ ap (λ (l : List ℕ). sets old 0 l) j
+        ∙ ap (λ (k : ℕ). sets old 0 (joined two_bytes ((k + n) ∷ (raised (2 * n) (offsets_from k a 0) ++ t2)))) first
+        ∙ ap (λ (k : ℕ). sets old 0 (joined two_bytes ((count_at a + k) ∷ (raised (2 * k) (offsets_from (count_at a) a 0) ++ raised (length a - 2) (offsets_from k b 0))))) second
 
     pub join_put : (old o1 o2 o3 p q : List ℕ) → o1 ≡ sets old 0 (joined two_bytes (table_of a b))
         → p ≡ part a (2 + 2 * m) (length a) → o2 ≡ sets o1 (2 + 2 * (m + n)) p

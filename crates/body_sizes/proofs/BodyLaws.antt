@@ -3,7 +3,7 @@ use Prim.Native.Nat.{ℕ, suc, ◌+◌, ◌*◌, ◌-◌, ◌≤◌}
 use mathlib.Core.Path.{◌≡◌, refl, sym, ap, ◌∙◌}
 use mathlib.Core.List.{List, [], ◌∷◌, ◌++◌, map}
 use native.Mathlib.Omega.{arith}
-use lib.ListN.{length_map, length, take, drop, length-append, length-drop}
+use lib.ListN.{length-map, length, take, drop, length-append, length-drop}
 use lib.Seq.{length-take-le, take-add}
 use Rattle.wire.specs.Folds.{joined}
 use Rattle.wire.specs.Answers.{done, over, within_limit}
@@ -28,7 +28,7 @@ length_flat (x ∷ xs) = length-append x (flat xs) ∙ ap (λ (k : ℕ). length 
 pub length_table : (xs : List (List ℕ)) → length (joined two_bytes (length xs ∷ starts (table_end (length xs)) (map length xs))) ≡ table_end (length xs)
 length_table xs =
     length_two (length xs ∷ starts (table_end (length xs)) (map length xs))
-    ∙ omega (arith, length_starts (table_end (length xs)) (map length xs), length_map xs length)
+    ∙ omega (arith, length_starts (table_end (length xs)) (map length xs), length-map xs length)
 
 pub length_body : (xs : List (List ℕ)) → length (body_of xs) ≡ table_end (length xs) + length (flat xs)
 unfolding body_of

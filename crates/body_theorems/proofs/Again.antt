@@ -3,7 +3,7 @@ use Prim.Native.Nat.{ℕ, zero, suc, ◌+◌, ◌*◌, ◌-◌, ◌≤◌}
 use mathlib.Core.Path.{◌≡◌, refl, sym, ap, ◌∙◌}
 use mathlib.Core.List.{List, [], ◌∷◌, ◌++◌, map}
 use native.Mathlib.Omega.{arith}
-use lib.ListN.{length, take, drop, length-drop, length_map, take-append-drop}
+use lib.ListN.{length, take, drop, length-drop, length-map, take-append-drop}
 use lib.Seq.{drop-drop, take-add, take-append_seam, drop-append_seam}
 use Rattle.connection.specs.Limits.{max_record}
 use Rattle.wire.specs.Numbers.{Bytes, value_of, low_first}
@@ -91,7 +91,7 @@ write_what_was_read s n b h =
     let z : items_size (length (drop (table_end n) s)) (map length (items_of s)) ≡ done (sum_of (map length (items_of s)))
     = sizes_again (items_of s) (length (drop (table_end n) s)) (items_filled s n h) (omega arith) in
     let whole : table_end (length (map length (items_of s))) + sum_of (map length (items_of s)) ≡ length s
-    = omega (arith, length_map (items_of s) length, count_items s n a, a.table) in
+    = omega (arith, length-map (items_of s) length, count_items s n a, a.table) in
     record {
       size =
           rw z

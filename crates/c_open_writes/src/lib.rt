@@ -16,7 +16,7 @@ use transport_words::transport_of;
 use wire::{Counted, Refusal};
 
 // What the words of a Forward Open hold, or why they hold nothing.
-#[derive(Drop)]
+#[derive(Clone, Copy)]
 enum Words {
     Found(ConnectionParameters, ConnectionParameters, Direction, TriggerType, TransportClass),
     Refused(Refusal),

@@ -38,7 +38,7 @@ pub(crate) const LONG_NUMBER: u32 = 4294967295;
 pub const ROW: usize = 4;
 
 // A segment's four numbers, in the order of the header.
-#[derive(Drop)]
+#[derive(Clone, Copy)]
 pub struct SegmentRow {
     pub kind: u32,
     pub number: u32,

@@ -8,7 +8,7 @@ const NEWLINE: u8 = 10;
 const MOST: usize = 300;
 
 // Where the next line begins, and what was on this one.
-#[derive(Drop)]
+#[derive(Clone, Copy)]
 struct Answer {
     next: usize,
     case: Case,

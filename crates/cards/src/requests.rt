@@ -6,7 +6,7 @@ use connection::OpenOptions;
 const SERIAL: u16 = 0x1234;
 
 // Bytes of a Forward Open, and how many of them were written.
-#[derive(Drop)]
+#[derive(Clone, Copy)]
 struct Open {
     bytes: [u8; 64],
     said: show::Said,

@@ -5,7 +5,7 @@ use wire::{Refusal, Wrote};
 const LINE: usize = 48;
 
 // What was answered: document 01's refusal number and no bytes, or 0 and so many bytes.
-#[derive(Drop)]
+#[derive(Clone, Copy)]
 pub struct Said {
     pub refusal: u8,
     pub len: usize,

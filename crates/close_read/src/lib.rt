@@ -11,7 +11,7 @@ use wire::{Counted, Refusal};
 use wire_read::{byte_at, u16_at, u32_at};
 
 // The record, and start and length of its path.
-#[derive(Drop)]
+#[derive(Clone, Copy)]
 pub enum CloseRead {
     Found(ForwardCloseRequest, usize, usize),
     Refused(Refusal),

@@ -22,7 +22,7 @@ pub const MAX_LARGE_SIZE: u16 = 65535;
 
 // ---- enums
 
-#[derive(Drop)]
+#[derive(Clone, Copy)]
 pub enum ConnectionType {
     // may be used to reconfigure the connection
     Null,
@@ -32,7 +32,7 @@ pub enum ConnectionType {
     P2P,
 }
 
-#[derive(Drop)]
+#[derive(Clone, Copy)]
 pub enum Priority {
     Low,
     High,
@@ -40,13 +40,13 @@ pub enum Priority {
     Urgent,
 }
 
-#[derive(Drop)]
+#[derive(Clone, Copy)]
 pub enum Direction {
     Client,
     Server,
 }
 
-#[derive(Drop)]
+#[derive(Clone, Copy)]
 pub enum TriggerType {
     Cyclic,
     ChangeOfState,
@@ -55,7 +55,7 @@ pub enum TriggerType {
 }
 
 // A 16-bit sequence count stands before the data of classes 1, 2 and 3.
-#[derive(Drop)]
+#[derive(Clone, Copy)]
 pub enum TransportClass {
     Class0,
     Class1,
@@ -69,7 +69,7 @@ pub enum TransportClass {
     Class6,
 }
 
-#[derive(Drop)]
+#[derive(Clone, Copy)]
 pub enum VariableLength {
     Fixed,
     Variable,
@@ -77,7 +77,7 @@ pub enum VariableLength {
 
 // ---- records; a path stands beside its record, as a list to write and as a part of the input when read, and so does application data, as bytes
 
-#[derive(Drop)]
+#[derive(Clone, Copy)]
 pub struct ConnectionParameters {
     // more than one owner may make the connection
     pub redundant_owner: bool,
@@ -89,7 +89,7 @@ pub struct ConnectionParameters {
 }
 
 // Forward Open's fields, small and large.
-#[derive(Drop)]
+#[derive(Clone, Copy)]
 pub struct OpenOptions {
     pub o_t_connection_id: u32,
     pub t_o_connection_id: u32,
@@ -110,7 +110,7 @@ pub struct OpenOptions {
     pub large_open: bool,
 }
 
-#[derive(Drop)]
+#[derive(Clone, Copy)]
 pub struct ForwardCloseRequest {
     pub priority_time_ticks: u8,
     pub timeout_ticks: u8,
@@ -120,13 +120,13 @@ pub struct ForwardCloseRequest {
 }
 
 // The message and the route stand beside it.
-#[derive(Drop)]
+#[derive(Clone, Copy)]
 pub struct UnconnectedSend {
     pub priority_ticks: u8,
     pub timeout_ticks: u8,
 }
 
-#[derive(Drop)]
+#[derive(Clone, Copy)]
 pub struct ForwardOpenSuccess {
     // chosen by the target
     pub o_t_connection_id: u32,
@@ -139,7 +139,7 @@ pub struct ForwardOpenSuccess {
     pub t_o_api: u32,
 }
 
-#[derive(Drop)]
+#[derive(Clone, Copy)]
 pub struct ForwardCloseSuccess {
     pub connection_serial_number: u16,
     pub originator_vendor_id: u16,
@@ -147,13 +147,13 @@ pub struct ForwardCloseSuccess {
 }
 
 // In words; only routing errors have one.
-#[derive(Drop)]
+#[derive(Clone, Copy)]
 pub enum RemainingPathSize {
     Absent,
     Words(u8),
 }
 
-#[derive(Drop)]
+#[derive(Clone, Copy)]
 pub struct ForwardRequestFail {
     pub connection_serial_number: u16,
     pub originator_vendor_id: u16,

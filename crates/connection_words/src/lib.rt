@@ -9,19 +9,19 @@ pub use fields::{decode_parameters, encode_parameters};
 use wire::Refusal;
 
 // A field of several bits as a number, or why there is none.
-#[derive(Drop)]
+#[derive(Clone, Copy)]
 pub enum Word {
     Bits(u32),
     Refused(Refusal),
 }
 
-#[derive(Drop)]
+#[derive(Clone, Copy)]
 pub enum ParametersRead {
     Found(ConnectionParameters),
     Refused(Refusal),
 }
 
-#[derive(Drop)]
+#[derive(Clone, Copy)]
 pub enum TransportRead {
     Found(Direction, TriggerType, TransportClass),
     Refused(Refusal),

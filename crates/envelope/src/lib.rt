@@ -19,7 +19,7 @@ const CONNECTED_DATA: u16 = 0xB1;
 const UNCONNECTED_DATA: u16 = 0xB2;
 
 // The data as a start and a length in the input; connected data has a 16-bit count before it.
-#[derive(Drop)]
+#[derive(Clone, Copy)]
 pub enum EnvelopeRead {
     Unconnected(usize, usize),
     Connected(u16, usize, usize),

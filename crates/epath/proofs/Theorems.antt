@@ -3,7 +3,7 @@ use Prim.Native.Nat.{ℕ, zero, suc, ◌+◌, ◌-◌, ◌%◌, ◌≤◌, ◌<�
 use mathlib.Core.Path.{◌≡◌, refl, sym, ap, ◌∙◌, subst}
 use mathlib.Core.List.{List, [], ◌∷◌, map}
 use native.Mathlib.Omega.{arith}
-use lib.ListN.{length, take, drop, length-append, length-replicate, length_map}
+use lib.ListN.{length, take, drop, length-append, length-replicate, length-map}
 use lib.Seq.{sets-eq, take-append_seam}
 use Rattle.wire.specs.Numbers.{Bytes}
 use Rattle.wire.specs.Answers.{Answer, done, refused, plus}
@@ -60,7 +60,7 @@ all_fine pool [] r g = tt
 all_fine pool (x ∷ l) r g = (good_fine pool x.segment r.0 g.0, all_fine pool l r.1 g.1)
 
 length_segs : (pool : List ℕ) (l : List Slot) → length (segs pool l) ≡ length l
-length_segs pool l = simp length_map
+length_segs pool l = simp length-map
 
 few_slots : (k m : ℕ) (l : List Slot) → k ≤ m → length (take k l) ≤ m
 few_slots zero m l h = omega arith

@@ -3,7 +3,7 @@ use Prim.Native.Nat.{ℕ, zero, suc, ◌+◌, ◌-◌, ◌^◌, ◌≤◌, ◌<�
 use mathlib.Core.Path.{◌≡◌, refl, sym, ap, ◌∙◌, subst}
 use mathlib.Core.List.{List, [], ◌∷◌, ◌++◌}
 use native.Mathlib.Omega.{arith}
-use lib.ListN.{length, take, drop, get_or, length_map}
+use lib.ListN.{length, take, drop, get_or, length-map}
 use lib.Seq.{sets}
 use mir.Val.{Fits}
 use mir.Syntax.{w64}
@@ -40,7 +40,7 @@ module _ (pool : List ℕ) (p : Path) where
 
     module _ (full : length p.slots ≡ max_segments) (few : p.count ≤ max_segments) where
       pub filing_ends : p.count ≤ i → out ≡ sets old 0 (encode (segs_of pool p))
-      filing_ends h = storing_ends encode_seg (segs_of pool p) f.stores (simp length_map (past p full few i h))
+      filing_ends h = storing_ends encode_seg (segs_of pool p) f.stores (simp length-map (past p full few i h))
 
       module _ (h : i < p.count) where
         x : Slot

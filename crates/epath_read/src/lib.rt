@@ -15,7 +15,7 @@ use epath_sizes::{Path, PortSegment, Segment, Slot, SymbolSegment};
 use wire::{Counted, Refusal};
 
 // How many segments were read, and the list; a refusal beside a list that holds nothing.
-#[derive(Drop)]
+#[derive(Clone, Copy)]
 pub struct PathRead {
     pub answer: Counted,
     pub path: Path,

@@ -9,7 +9,7 @@ use wire::Refusal;
 use wire_read::{byte_at, u16_at, u32_at};
 
 // Which number a logical segment holds.
-#[derive(Drop)]
+#[derive(Clone, Copy)]
 enum Kind {
     Class,
     Instance,
@@ -18,7 +18,7 @@ enum Kind {
 }
 
 // What a segment's first byte says of the rest.
-#[derive(Drop)]
+#[derive(Clone, Copy)]
 enum Form {
     Port,
     Symbol,

@@ -7,7 +7,7 @@ use epath_sizes::Segment;
 use wire::Refusal;
 
 // The segment at the front, and how many bytes it has; or why there is none.
-#[derive(Drop)]
+#[derive(Clone, Copy)]
 pub enum SegmentRead {
     Found(Segment, usize),
     Refused(Refusal),

@@ -55,7 +55,7 @@ fn connection_manager() -> [u8; 4]
 // ---- the list
 
 // A port, and its link: len bytes of the pool from start.
-#[derive(Drop)]
+#[derive(Clone, Copy)]
 pub struct PortSegment {
     // to leave the node by; 1 is the backplane
     pub port: u16,
@@ -64,13 +64,13 @@ pub struct PortSegment {
 }
 
 // A symbol: len bytes of the pool from start.
-#[derive(Drop)]
+#[derive(Clone, Copy)]
 pub struct SymbolSegment {
     pub start: u32,
     pub len: u32,
 }
 
-#[derive(Drop)]
+#[derive(Clone, Copy)]
 pub enum Segment {
     Symbol(SymbolSegment),
     Class(u16),
@@ -80,13 +80,13 @@ pub enum Segment {
     Port(PortSegment),
 }
 
-#[derive(Drop)]
+#[derive(Clone, Copy)]
 pub struct Slot {
     pub segment: Segment,
 }
 
 // The first count slots are the list.
-#[derive(Drop)]
+#[derive(Clone, Copy)]
 pub struct Path {
     pub slots: [Slot; MAX_SEGMENTS],
     pub count: usize,

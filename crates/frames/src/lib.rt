@@ -27,7 +27,7 @@ pub const MAX_FRAME: usize = HEADER + MAX_DATA;
 
 // A frame that is not whole yet: how many of its bytes the buffer holds, its length once its header is held (before, 0), and whether it was refused
 // as too long for the buffer.
-#[derive(Drop)]
+#[derive(Clone, Copy)]
 pub struct FrameState {
     pub held: usize,
     pub length: usize,
@@ -35,14 +35,14 @@ pub struct FrameState {
 }
 
 // A frame that lies whole at the front of the buffer: its length, and how many bytes of the scrap it took.
-#[derive(Drop)]
+#[derive(Clone, Copy)]
 pub struct Frame {
     pub length: usize,
     pub taken: usize,
 }
 
 // What became of a scrap: all of it was taken; it brought a frame's last byte, and what stands behind that is to be given again; or it was refused.
-#[derive(Drop)]
+#[derive(Clone, Copy)]
 pub enum Took {
     All,
     Whole(Frame),
@@ -50,7 +50,7 @@ pub enum Took {
 }
 
 // The state and the answer that a call leaves.
-#[derive(Drop)]
+#[derive(Clone, Copy)]
 pub struct Stepped {
     pub state: FrameState,
     pub took: Took,

@@ -8,7 +8,7 @@ ghost use Rattle.lines.specs.Lines.{start, case_of, case_line};
 pub const MAX_DIGITS: usize = 600000;
 
 // A line so far: how many digits, and the value of the last one; how many before a comment; or no case, whatever follows.
-#[derive(Drop)]
+#[derive(Clone, Copy)]
 pub enum Line {
     Digits(usize, u8),
     Comment(usize),
@@ -16,7 +16,7 @@ pub enum Line {
 }
 
 // A whole line: nothing on it, so many bytes, or no case.
-#[derive(Drop)]
+#[derive(Clone, Copy)]
 pub enum Case {
     Nothing,
     Bytes(usize),

@@ -9,7 +9,7 @@ pub use message::read_message;
 pub use route::{padded_route_at, route_at};
 use wire::Refusal;
 
-#[derive(Drop)]
+#[derive(Clone, Copy)]
 pub struct MessageRequest {
     pub service_code: u8,
     pub path_start: usize,
@@ -18,7 +18,7 @@ pub struct MessageRequest {
     pub data_len: usize,
 }
 
-#[derive(Drop)]
+#[derive(Clone, Copy)]
 pub enum MessageRead {
     Found(MessageRequest),
     Refused(Refusal),

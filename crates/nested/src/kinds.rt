@@ -17,7 +17,7 @@ const UNCONNECTED_SEND: u8 = 0x52;
 
 const CONNECTION_MANAGER: u8 = 6;
 
-#[derive(Drop)]
+#[derive(Clone, Copy)]
 pub enum Kind {
     Plain,
     Packet,

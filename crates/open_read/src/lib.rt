@@ -18,7 +18,7 @@ use wire::{Counted, Refusal};
 use wire_read::{byte_at, u16_at, u32_at};
 
 // The record, and start and length of its path.
-#[derive(Drop)]
+#[derive(Clone, Copy)]
 pub enum OpenRead {
     Found(OpenOptions, usize, usize),
     Refused(Refusal),

@@ -12,7 +12,7 @@ use wire_read::{byte_at, u16_at};
 const MOST_WORDS: u8 = 1;
 
 // Service and status, and the part of the reply that is data.
-#[derive(Drop)]
+#[derive(Clone, Copy)]
 pub struct MessageReply {
     pub reply_service: u8,
     pub status: Status,
@@ -20,7 +20,7 @@ pub struct MessageReply {
     pub data_len: usize,
 }
 
-#[derive(Drop)]
+#[derive(Clone, Copy)]
 pub enum ReplyRead {
     Found(MessageReply),
     Refused(Refusal),

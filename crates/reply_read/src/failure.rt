@@ -6,7 +6,7 @@ use connection::{ForwardRequestFail, RemainingPathSize};
 use wire::Refusal;
 use wire_read::{byte_at, u16_at, u32_at};
 
-#[derive(Drop)]
+#[derive(Clone, Copy)]
 pub(crate) enum FailRead {
     Found(ForwardRequestFail),
     Refused(Refusal),

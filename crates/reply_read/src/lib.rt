@@ -13,14 +13,14 @@ use reply_header::MessageReply;
 use wire::Refusal;
 
 // On success the record, and start and length of its application data.
-#[derive(Drop)]
+#[derive(Clone, Copy)]
 pub enum OpenReplyRead {
     Success(MessageReply, ForwardOpenSuccess, usize, usize),
     Failure(MessageReply, ForwardRequestFail),
     Refused(Refusal),
 }
 
-#[derive(Drop)]
+#[derive(Clone, Copy)]
 pub enum CloseReplyRead {
     Success(MessageReply, ForwardCloseSuccess, usize, usize),
     Failure(MessageReply, ForwardRequestFail),

@@ -10,7 +10,7 @@ use wire_read::byte_at;
 const MOST_TICKS: u8 = 15;
 
 // Whether rules were kept, or the number of the first that was not.
-#[derive(Drop)]
+#[derive(Clone, Copy)]
 pub enum Judged {
     Kept,
     Refused(Refusal),

@@ -14,7 +14,7 @@ use wire::{Counted, Refusal};
 use wire_read::{byte_at, u16_at};
 
 // The record, start and length of the message, and of the path.
-#[derive(Drop)]
+#[derive(Clone, Copy)]
 pub enum SendRead {
     Found(UnconnectedSend, usize, usize, usize, usize),
     Refused(Refusal),

@@ -4,13 +4,13 @@ ghost use Rattle.std.specs.Prelude.{◌≡◌};
 ghost use Rattle.statuses.specs.Statuses.{is_ok, routing_word, is_routing_error};
 
 // One word, or none.
-#[derive(Drop)]
+#[derive(Clone, Copy)]
 pub enum ExtendedStatus {
     Absent,
     Word(u16),
 }
 
-#[derive(Drop)]
+#[derive(Clone, Copy)]
 pub struct Status {
     pub general: u8,
     pub extended: ExtendedStatus,

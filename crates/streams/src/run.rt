@@ -4,7 +4,7 @@ use frames::{Frame, FrameState, Stepped, Took};
 use wire::Refusal;
 
 // The state; how much of the stream was taken, and how much given; the frames, their bytes, a sum over them; and the calls.
-#[derive(Drop)]
+#[derive(Clone, Copy)]
 pub struct Run {
     pub state: FrameState,
     pub at: usize,

@@ -3,7 +3,7 @@ use body_items::{Item, ItemRead};
 use reply_header::ReplyRead;
 
 // Items, their bytes, those that begin as they were written, and those that hold a reply.
-#[derive(Drop)]
+#[derive(Clone, Copy)]
 pub struct Walked {
     pub items: usize,
     pub bytes: usize,

@@ -5,7 +5,7 @@ ghost use Rattle.std.specs.Prelude.{◌≡◌};
 ghost use Rattle.wire.specs.Refusals.{number};
 
 // Why an input or a request is refused; document 01's numbers 1 to 11, in order.
-#[derive(Drop)]
+#[derive(Clone, Copy)]
 pub enum Refusal {
     Short,
     Room,
@@ -21,14 +21,14 @@ pub enum Refusal {
 }
 
 // What a writer or a sizer answers: how many bytes, or why not.
-#[derive(Drop)]
+#[derive(Clone, Copy)]
 pub enum Wrote {
     Size(usize),
     Refused(Refusal),
 }
 
 // What a reader that only counts answers: how many, or why not.
-#[derive(Drop)]
+#[derive(Clone, Copy)]
 pub enum Counted {
     Count(usize),
     Refused(Refusal),

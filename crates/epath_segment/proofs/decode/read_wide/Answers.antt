@@ -1,0 +1,21 @@
+-- `epath_segment::decode::read_wide` meets its contract. Assumes nothing.
+--: use Rattle.epath_segment.proofs.ReadLaws.{number_laws}
+--: * = search (number_laws, rules) fits 5000
+use Rattle.epath_segment.proofs.ReadLaws.{number_laws}
+use Rattle.std.proofs.Common.{rules}
+use Rattle.epath_segment.proofs.decode.read_wide.Goals as goal
+
+pub returns-then-t-lt2 : goal.returns-then-t-lt2
+returns-then-t-lt2 c = search (number_laws, rules) fits 5000
+
+pub returns-then-pad-ne0 : goal.returns-then-pad-ne0
+returns-then-pad-ne0 c = search (number_laws, rules) fits 5000
+
+pub returns-then-t-lt4 : goal.returns-then-t-lt4
+returns-then-t-lt4 c = search (number_laws, rules) fits 5000
+
+pub returns-then-v-lt256 : goal.returns-then-v-lt256
+returns-then-v-lt256 c = search (number_laws, rules) fits 5000
+
+pub returns : goal.returns
+returns c = search (number_laws, rules) fits 5000

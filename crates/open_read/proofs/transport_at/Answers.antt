@@ -1,0 +1,12 @@
+-- `open_read::transport_at` meets its contract. Assumes nothing.
+--: use Rattle.open_read.proofs.ReadLaws.{field_laws}
+--: * = search (field_laws, rules) fits 5000
+use Rattle.open_read.proofs.ReadLaws.{field_laws}
+use Rattle.std.proofs.Common.{rules}
+use Rattle.open_read.proofs.transport_at.Goals as goal
+
+pub returns-then-s-at : goal.returns-then-s-at
+returns-then-s-at c = search (field_laws, rules) fits 5000
+
+pub returns : goal.returns
+returns c = search (field_laws, rules) fits 5000

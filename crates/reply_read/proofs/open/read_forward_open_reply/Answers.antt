@@ -1,0 +1,15 @@
+-- `reply_read::open::read_forward_open_reply` meets its contract. Assumes nothing.
+--: use Rattle.reply_read.proofs.ReadLaws.{reply_laws}
+--: * = search (reply_laws, rules) fits 5000
+use Rattle.reply_read.proofs.ReadLaws.{reply_laws}
+use Rattle.std.proofs.Common.{rules}
+use Rattle.reply_read.proofs.open.read_forward_open_reply.Goals as goal
+
+pub open_data-requires : goal.open_data-requires
+open_data-requires c = search (reply_laws, rules) fits 5000
+
+pub returns-in-Refused : goal.returns-in-Refused
+returns-in-Refused c = search (reply_laws, rules) fits 5000
+
+pub returns-in-Found : goal.returns-in-Found
+returns-in-Found c = search (reply_laws, rules) fits 5000

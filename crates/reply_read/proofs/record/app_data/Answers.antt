@@ -1,0 +1,15 @@
+-- `reply_read::record::app_data` meets its contract. Assumes nothing.
+--: use Rattle.reply_read.proofs.ReadLaws.{field_laws}
+--: * = search (field_laws, rules) fits 5000
+use Rattle.reply_read.proofs.ReadLaws.{field_laws}
+use Rattle.std.proofs.Common.{rules}
+use Rattle.reply_read.proofs.record.app_data.Goals as goal
+
+pub returns-then-s-at : goal.returns-then-s-at
+returns-then-s-at c = search (field_laws, rules) fits 5000
+
+pub returns-then-at-len : goal.returns-then-at-len
+returns-then-at-len c = search (field_laws, rules) fits 5000
+
+pub returns : goal.returns
+returns c = search (field_laws, rules) fits 5000
