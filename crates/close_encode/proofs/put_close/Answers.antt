@@ -1,0 +1,17 @@
+-- `close_encode::put_close` meets its contract. Assumes nothing.
+--: use Rattle.route.proofs.RouteLaws.{put_laws}
+--: use Rattle.close_encode.proofs.WriteLaws.{close_put}
+--: * = search (put_laws, close_put, rules) fits 5000
+use Rattle.route.proofs.RouteLaws.{put_laws}
+use Rattle.close_encode.proofs.WriteLaws.{close_put}
+use Rattle.std.proofs.Common.{rules}
+use Rattle.close_encode.proofs.put_close.Goals as goal
+
+pub overflow_cast-n : goal.overflow_cast-n
+overflow_cast-n c = search (put_laws, close_put, rules) fits 5000
+
+pub returns-in-Refused : goal.returns-in-Refused
+returns-in-Refused c = search (put_laws, close_put, rules) fits 5000
+
+pub returns-in-Size : goal.returns-in-Size
+returns-in-Size c = search (put_laws, close_put, rules) fits 5000

@@ -1,0 +1,14 @@
+-- `dump_text::put_lines` meets its contract. Assumes nothing.
+--: use Rattle.dump_text.proofs.TextLaws.{lines_laws, Lines}
+--: invariant-loop = Lines l.rows l.n l.rest l.at l.initial.out l.out
+--: decreases-loop = l.rest
+--: * = search (lines_laws, rules) fits 5000
+use Rattle.dump_text.proofs.TextLaws.{lines_laws}
+use Rattle.std.proofs.Common.{rules}
+use Rattle.dump_text.proofs.put_lines.Goals as goal
+
+pub loop-rest-preserved : goal.loop-rest-preserved
+loop-rest-preserved c = search (lines_laws, rules) fits 5000
+
+pub returns : goal.returns
+returns c = search (lines_laws, rules) fits 5000
