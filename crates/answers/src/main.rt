@@ -1,5 +1,6 @@
 // Answers each case on standard input with one line of hex: docs/ANSWERS.md has the form of both. A line that is no case is answered `bad`.
 #![tactic(auto)]
+
 mod fields; // fields.rt: the fields of a case
 mod said; // said.rt: the bytes of an answer
 mod connections; // connections.rt: the fields of a Forward Open
@@ -105,7 +106,13 @@ fn feed(chunk: &[u8], line: Line, case: &mut [u8], reply: &mut [u8], text: &mut 
 
 // A proved loop has to end, and nothing says that the input does. So the turns are counted, and no run uses them up.
 // A last line without a newline is answered too.
-fn run(rt: &HostRuntime, chunk: &mut [u8], case: &mut [u8], reply: &mut [u8], text: &mut [u8]) -> std::io::Result<()> {
+fn run(
+    rt: &HostRuntime,
+    chunk: &mut [u8],
+    case: &mut [u8],
+    reply: &mut [u8],
+    text: &mut [u8],
+) -> std::io::Result<()> {
     let mut input = rt.stdin();
     let mut line = lines::blank_line();
     for _ in 0..u64::MAX {

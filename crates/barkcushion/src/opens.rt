@@ -51,5 +51,22 @@ pub extern "C" fn bark_write_forward_open(
     ensures answer { result ≡ code (with_room (open_given path.now large_open o_t_params t_o_params transport) (length out.old)) }
     ensures bytes { out.new ≡ written (with_room (open_given path.now large_open o_t_params t_o_params transport) (length out.old)) (open_bytes (options_of large_open priority_tick_time timeout_ticks o_t_connection_id t_o_connection_id connection_serial_number vendor_id originator_serial_number timeout_multiplier o_t_rpi o_t_params t_o_rpi t_o_params transport) path.now) out.old }
 {
-    c_open_writes::bark_write_forward_open(large_open, priority_tick_time, timeout_ticks, o_t_connection_id, t_o_connection_id, connection_serial_number, vendor_id, originator_serial_number, timeout_multiplier, o_t_rpi, o_t_params, t_o_rpi, t_o_params, transport, path, out)
+    c_open_writes::bark_write_forward_open(
+        large_open,
+        priority_tick_time,
+        timeout_ticks,
+        o_t_connection_id,
+        t_o_connection_id,
+        connection_serial_number,
+        vendor_id,
+        originator_serial_number,
+        timeout_multiplier,
+        o_t_rpi,
+        o_t_params,
+        t_o_rpi,
+        t_o_params,
+        transport,
+        path,
+        out,
+    )
 }

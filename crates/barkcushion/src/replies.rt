@@ -85,7 +85,18 @@ pub extern "C" fn bark_write_forward_open_success(
     ensures answer { result ≡ code (with_room (success_size open_success_base app_data.now) (length out.old)) }
     ensures bytes { out.new ≡ written (with_room (success_size open_success_base app_data.now) (length out.old)) (open_reply_bytes service (opened_of o_t_connection_id t_o_connection_id connection_serial_number vendor_id originator_serial_number o_t_api t_o_api) app_data.now) out.old }
 {
-    c_reply_writes::bark_write_forward_open_success(service, o_t_connection_id, t_o_connection_id, connection_serial_number, vendor_id, originator_serial_number, o_t_api, t_o_api, app_data, out)
+    c_reply_writes::bark_write_forward_open_success(
+        service,
+        o_t_connection_id,
+        t_o_connection_id,
+        connection_serial_number,
+        vendor_id,
+        originator_serial_number,
+        o_t_api,
+        t_o_api,
+        app_data,
+        out,
+    )
 }
 
 // Writes the reply to a Forward Close that was served.
@@ -101,7 +112,14 @@ pub extern "C" fn bark_write_forward_close_success(
     ensures answer { result ≡ code (with_room (success_size close_success_base app_data.now) (length out.old)) }
     ensures bytes { out.new ≡ written (with_room (success_size close_success_base app_data.now) (length out.old)) (close_reply_bytes service (closed_of connection_serial_number vendor_id originator_serial_number) app_data.now) out.old }
 {
-    c_reply_writes::bark_write_forward_close_success(service, connection_serial_number, vendor_id, originator_serial_number, app_data, out)
+    c_reply_writes::bark_write_forward_close_success(
+        service,
+        connection_serial_number,
+        vendor_id,
+        originator_serial_number,
+        app_data,
+        out,
+    )
 }
 
 // Writes the reply to either that failed.
@@ -121,5 +139,16 @@ pub extern "C" fn bark_write_forward_failure(
     ensures answer { result ≡ code (with_room (failure_size (status_of general has_word word) (fail_of connection_serial_number vendor_id originator_serial_number has_remaining remaining)) (length out.old)) }
     ensures bytes { out.new ≡ written (with_room (failure_size (status_of general has_word word) (fail_of connection_serial_number vendor_id originator_serial_number has_remaining remaining)) (length out.old)) (failure_bytes service (status_of general has_word word) (fail_of connection_serial_number vendor_id originator_serial_number has_remaining remaining)) out.old }
 {
-    c_failure_writes::bark_write_forward_failure(service, general, has_word, word, connection_serial_number, vendor_id, originator_serial_number, has_remaining, remaining, out)
+    c_failure_writes::bark_write_forward_failure(
+        service,
+        general,
+        has_word,
+        word,
+        connection_serial_number,
+        vendor_id,
+        originator_serial_number,
+        has_remaining,
+        remaining,
+        out,
+    )
 }

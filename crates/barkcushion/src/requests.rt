@@ -51,7 +51,15 @@ pub extern "C" fn bark_write_forward_close(
     ensures answer { result ≡ code (with_room (close_over_size path.now) (length out.old)) }
     ensures bytes { out.new ≡ written (with_room (close_over_size path.now) (length out.old)) (close_bytes (close_of priority_ticks timeout_ticks connection_serial_number vendor_id originator_serial_number) path.now) out.old }
 {
-    c_closes::bark_write_forward_close(priority_ticks, timeout_ticks, connection_serial_number, vendor_id, originator_serial_number, path, out)
+    c_closes::bark_write_forward_close(
+        priority_ticks,
+        timeout_ticks,
+        connection_serial_number,
+        vendor_id,
+        originator_serial_number,
+        path,
+        out,
+    )
 }
 
 // Writes the data of an Unconnected Send over a path's bytes.

@@ -16,7 +16,14 @@ pub extern "C" fn bark_encode_parameters(
 ) -> usize
     ensures { result ≡ code (encoded_parameters large redundant_owner connection_type variable_length priority connection_size) }
 {
-    c_forward_words::bark_encode_parameters(large, redundant_owner, connection_type, variable_length, priority, connection_size)
+    c_forward_words::bark_encode_parameters(
+        large,
+        redundant_owner,
+        connection_type,
+        variable_length,
+        priority,
+        connection_size,
+    )
 }
 
 // The connection parameters in a word.

@@ -1,6 +1,7 @@
 // What the valve group links, and nothing else: paths, for C. Each function calls the one of its name in c_paths, c_path_checks or c_path_reads,
 // whose clauses are repeated here word for word. include/barkcushion_path.h has what C sees.
 #![tactic(auto)]
+
 ghost use Rattle.std.specs.Prelude.{length, ◌≡◌};
 ghost use Rattle.c_answers.specs.Codes.{code};
 ghost use Rattle.c_paths.specs.Rows.{rows_size, slots_in};

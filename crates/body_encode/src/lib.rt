@@ -2,6 +2,7 @@
 // src/service/common_services/multiple_packet.rs.
 // The items are lent end to end, and beside them a run of their lengths.
 #![tactic(auto)]
+
 ghost use Rattle.std.specs.Prelude.{◌≡◌, ◌+◌, ◌≤◌, length};
 ghost use Rattle.std.proofs.lemmas.List.Edits.{sets};
 ghost use Rattle.wire.specs.Answers.{paper_size, with_room, written};

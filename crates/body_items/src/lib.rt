@@ -1,6 +1,7 @@
 // The items of a body, each by its index. Beside it in rseip-cip: `ReplyIter` in src/service/common_services/multiple_packet.rs, which goes from
 // item to item and reads each from where the one before it stopped; here an item has its own start and length, and nothing else moves them.
 #![tactic(auto)]
+
 ghost use Rattle.std.specs.Prelude.{◌≡◌, ◌+◌, ◌*◌, ◌≤◌, ◌<◌, length};
 ghost use Rattle.body_sizes.specs.Bodies.{table_end};
 ghost use Rattle.body_read.specs.Reads.{offset_at};

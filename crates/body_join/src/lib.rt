@@ -1,5 +1,6 @@
 // Two bodies, joined: the first's items and then the second's. The crate rseip-cip has no join.
 #![tactic(auto)]
+
 ghost use Rattle.std.specs.Prelude.{◌≡◌, length};
 ghost use Rattle.std.proofs.lemmas.List.Edits.{sets};
 ghost use Rattle.wire.specs.Answers.{paper_size, with_room, written};

@@ -1,6 +1,7 @@
 // The data of a Multiple Service Packet, a body, judged: every offset, before any item is handed out. Beside it in rseip-cip: the front of
 // `ReplyIter::next` in src/service/common_services/multiple_packet.rs.
 #![tactic(auto)]
+
 ghost use Rattle.std.specs.Prelude.{◌≡◌, ◌-◌, ◌≤◌};
 ghost use Rattle.wire.specs.Answers.{done, judged, paper_count};
 ghost use Rattle.connection.specs.Limits.{max_record};

@@ -2,6 +2,7 @@
 // src/service/common_services/multiple_packet.rs.
 // An item's header is judged when that item is asked for: its refusal touches no other.
 #![tactic(auto)]
+
 ghost use Rattle.std.specs.Prelude.{◌≡◌, ◌≤◌};
 ghost use Rattle.connection.specs.Limits.{max_record};
 ghost use Rattle.reply_header.specs.Headers.{paper_reply};

@@ -2,6 +2,7 @@
 // rseip-cip: `MultipleServicesEncoder` in src/service/common_services/multiple_packet.rs.
 // The items are lent end to end, and beside them a run of their lengths.
 #![tactic(auto)]
+
 ghost use Rattle.std.specs.Prelude.{◌≡◌, length};
 ghost use Rattle.wire.specs.Answers.{paper_size};
 ghost use Rattle.body_sizes.specs.Bodies.{items_size, body_size};

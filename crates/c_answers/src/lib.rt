@@ -1,5 +1,6 @@
 // What the functions for C share: an answer as one number, and a lent run of numbers that a reader fills.
 #![tactic(auto)]
+
 ghost use Rattle.std.specs.Prelude.{◌≡◌, ◌≤◌, length, take};
 ghost use Rattle.std.proofs.lemmas.List.Edits.{sets};
 ghost use Rattle.wire.specs.Refusals.{number};

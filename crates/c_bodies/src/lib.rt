@@ -1,5 +1,6 @@
 // Bodies, for C: written, and two joined.
 #![tactic(auto)]
+
 ghost use Rattle.std.specs.Prelude.{◌≡◌, length};
 ghost use Rattle.wire.specs.Answers.{with_room, written};
 ghost use Rattle.body_sizes.specs.Bodies.{cut, body_of, body_size};

@@ -1,5 +1,6 @@
 // Bodies, for C: read, and their items one by one.
 #![tactic(auto)]
+
 ghost use Rattle.std.specs.Prelude.{◌≡◌};
 ghost use Rattle.body_read.specs.Reads.{read_body};
 ghost use Rattle.body_items.specs.Items.{walk_item, body_item, paper_item};

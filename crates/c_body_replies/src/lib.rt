@@ -1,5 +1,6 @@
 // The replies in a body, for C.
 #![tactic(auto)]
+
 ghost use Rattle.std.specs.Prelude.{◌≡◌};
 ghost use Rattle.reply_header.specs.Headers.{paper_reply};
 ghost use Rattle.body_replies.specs.Replies.{walk_reply, body_reply};

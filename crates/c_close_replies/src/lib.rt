@@ -1,5 +1,6 @@
 // The reply to a Forward Close, for C: read. include/barkcushion.h says what it answers.
 #![tactic(auto)]
+
 ghost use Rattle.std.specs.Prelude.{◌≡◌};
 ghost use Rattle.c_answers.specs.Codes.{code, run_answer, run_left};
 ghost use Rattle.c_close_replies.specs.CloseReplies.{close_success_numbers, close_reply_run};

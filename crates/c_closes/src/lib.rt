@@ -1,5 +1,6 @@
 // Forward Close for C: read as a run of numbers, and written over a path that was written before. include/barkcushion.h has what C sees.
 #![tactic(auto)]
+
 ghost use Rattle.std.specs.Prelude.{◌≡◌, length};
 ghost use Rattle.wire.specs.Answers.{with_room, written};
 ghost use Rattle.connection_words.specs.Requests.{close_bytes};

@@ -1,5 +1,6 @@
 // A reply to a Forward Open or a Forward Close that failed, as the numbers that the functions for C fill.
 #![tactic(auto)]
+
 ghost use Rattle.std.specs.Prelude.{◌≡◌};
 ghost use Rattle.c_failure_numbers.specs.Failures.{has_remaining, remaining_of, failure_numbers};
 

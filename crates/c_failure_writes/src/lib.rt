@@ -1,5 +1,6 @@
 // The reply to a Forward Open or a Forward Close that failed, for C: written. include/barkcushion.h says what it answers.
 #![tactic(auto)]
+
 ghost use Rattle.std.specs.Prelude.{◌≡◌, length};
 ghost use Rattle.wire.specs.Answers.{with_room, written};
 ghost use Rattle.failure_encode.specs.Failures.{failure_bytes};

@@ -1,6 +1,7 @@
 // Connection parameters of a Forward Open, for C: a word, from numbers and to numbers. An enum is the number that stands for it in its field, so
 // that the word is the sum of its numbers, and they are its quotients. include/barkcushion.h has what C sees.
 #![tactic(auto)]
+
 ghost use Rattle.std.specs.Prelude.{◌≡◌, ◌<◌};
 ghost use Rattle.connection_words.specs.Fields.{unit};
 ghost use Rattle.c_answers.specs.Codes.{code, run_answer, run_left};

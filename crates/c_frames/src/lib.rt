@@ -1,5 +1,6 @@
 // Frames of a stream that comes in scraps, for C. include/barkcushion.h says what a call answers and where a state's numbers stand.
 #![tactic(auto)]
+
 ghost use Rattle.std.specs.Prelude.{◌≡◌};
 ghost use Rattle.c_answers.specs.Codes.{code};
 ghost use Rattle.c_frames.specs.Scraps.{state_numbers, taken_answer, numbers_after, bytes_after, frame_after};

@@ -1,5 +1,6 @@
 // Messages, for C: written over a path's bytes, and read. include/barkcushion.h says what each answers.
 #![tactic(auto)]
+
 ghost use Rattle.std.specs.Prelude.{◌≡◌, length};
 ghost use Rattle.wire.specs.Answers.{with_room, written};
 ghost use Rattle.connection_words.specs.Requests.{message_bytes};

@@ -1,5 +1,6 @@
 // Nested messages, for C.
 #![tactic(auto)]
+
 ghost use Rattle.std.specs.Prelude.{◌≡◌, length};
 ghost use Rattle.nested.specs.Nested.{nested, counted, stored_rows};
 ghost use Rattle.c_answers.specs.Codes.{code};

@@ -1,5 +1,6 @@
 // The reply to a Forward Open, for C: read. include/barkcushion.h says what it answers.
 #![tactic(auto)]
+
 ghost use Rattle.std.specs.Prelude.{◌≡◌};
 ghost use Rattle.c_answers.specs.Codes.{code, run_answer, run_left};
 ghost use Rattle.c_open_replies.specs.OpenReplies.{open_success_numbers, open_reply_run};

@@ -1,6 +1,7 @@
 // Forward Open over a path that was written before, for C. Its parameters, and class and trigger, are given as the words that it has.
 // include/barkcushion.h has what C sees.
 #![tactic(auto)]
+
 ghost use Rattle.std.specs.Prelude.{◌≡◌, length};
 ghost use Rattle.wire.specs.Answers.{with_room, written};
 ghost use Rattle.connection_words.specs.Requests.{open_bytes};

@@ -1,5 +1,6 @@
 // Forward Open as a run of numbers, for C: one that is read, and the default one. include/barkcushion.h has what C sees.
 #![tactic(auto)]
+
 ghost use Rattle.std.specs.Prelude.{◌≡◌};
 ghost use Rattle.wire.specs.Answers.{done};
 ghost use Rattle.open_read.specs.Reads.{opened};

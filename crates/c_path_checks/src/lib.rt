@@ -1,5 +1,6 @@
 // CIP paths for C: how many segments, judged strictly. include/barkcushion_path.h says what C sees of it.
 #![tactic(auto)]
+
 ghost use Rattle.std.specs.Prelude.{◌≡◌};
 ghost use Rattle.epath_check.specs.Paths.{check_path};
 ghost use Rattle.c_answers.specs.Codes.{code};

@@ -1,6 +1,7 @@
 // CIP paths for C: bytes into rows of four numbers; c_paths has the rows and their way into bytes. include/barkcushion_path.h says what C
 // sees of it. A path is judged, and then walked again, and each segment's row is stored behind the one before it.
 #![tactic(auto)]
+
 ghost use Rattle.std.specs.Prelude.{◌≡◌, ◌≤◌, length};
 ghost use Rattle.std.proofs.lemmas.List.Edits.{sets};
 ghost use Rattle.wire.specs.Answers.{written};

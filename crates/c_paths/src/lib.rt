@@ -1,6 +1,7 @@
 // CIP paths for C: rows of four numbers into bytes; back is c_path_reads. include/barkcushion_path.h says what C sees of it. No list of
 // segments is built: the rows are walked where they lie.
 #![tactic(auto)]
+
 mod write; // write.rt: rows into bytes
 
 ghost use Rattle.std.specs.Prelude.{◌≡◌, length};

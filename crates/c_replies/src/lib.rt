@@ -1,5 +1,6 @@
 // A reply's header, for C: read. include/barkcushion.h says what it answers.
 #![tactic(auto)]
+
 ghost use Rattle.std.specs.Prelude.{◌≡◌};
 ghost use Rattle.reply_header.specs.Headers.{read_header};
 ghost use Rattle.c_answers.specs.Codes.{code, run_answer, run_left};

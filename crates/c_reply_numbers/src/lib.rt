@@ -1,5 +1,6 @@
 // The six numbers of a reply's header, as every function for C that reads a reply fills them.
 #![tactic(auto)]
+
 ghost use Rattle.std.specs.Prelude.{◌≡◌};
 ghost use Rattle.c_reply_numbers.specs.Numbers.{extended_words, extended_word, reply_numbers};
 

@@ -1,5 +1,6 @@
 // The replies to a Forward Open and a Forward Close that were served, for C: written. include/barkcushion.h says what each answers.
 #![tactic(auto)]
+
 ghost use Rattle.std.specs.Prelude.{◌≡◌, length};
 ghost use Rattle.wire.specs.Answers.{with_room, written};
 ghost use Rattle.success_encode.specs.Replies.{open_reply_bytes, close_reply_bytes};

@@ -1,5 +1,6 @@
 // Statuses, for C: one of numbers, and what it says. include/barkcushion.h says what each answers.
 #![tactic(auto)]
+
 ghost use Rattle.std.specs.Prelude.{◌≡◌};
 ghost use Rattle.statuses.specs.Statuses.{is_routing_error};
 ghost use Rattle.c_statuses.specs.Statuses.{status_of};

@@ -1,6 +1,7 @@
 // Class and trigger of a Forward Open, for C: a byte, from numbers and to numbers. An enum is the number that stands for it in its field, so that
 // the byte is the sum of its numbers, and they are its quotients. include/barkcushion.h has what C sees.
 #![tactic(auto)]
+
 ghost use Rattle.std.specs.Prelude.{◌≡◌};
 ghost use Rattle.c_answers.specs.Codes.{code, run_answer, run_left};
 ghost use Rattle.c_transport_words.specs.Transports.{encoded_transport, transport_run};

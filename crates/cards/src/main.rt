@@ -1,6 +1,7 @@
 // Runs document 01's bench cards. A line for each: what is asked, document 01's answer, ours, and what the crate rseip-cip answered, which stands
 // on standard input, recorded by oracle/, a line of hex for each card in this order. The marked cards are proved too, in the crate card_table.
 #![tactic(auto)]
+
 mod show; // show.rt: words, bytes and answers on standard output
 mod recorded; // recorded.rt: the crate's answers
 mod paths; // paths.rt: the cards on paths

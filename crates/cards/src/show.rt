@@ -35,7 +35,11 @@ pub(crate) fn words(text: &[u8]) {
 
 // A byte in two digits, with capital letters, which io::print_hex does not give.
 fn hex(b: u8) {
-    words(&[b' ', hex_digits::hex_digit(b / 16), hex_digits::hex_digit(b)]);
+    words(&[
+        b' ',
+        hex_digits::hex_digit(b / 16),
+        hex_digits::hex_digit(b),
+    ]);
 }
 
 fn all(s: &[u8]) {

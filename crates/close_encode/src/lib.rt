@@ -1,5 +1,6 @@
 // Forward Close: the writer over a list of segments. Beside it in rseip-cip: `ForwardCloseRequest` in src/codec/encode.rs.
 #![tactic(auto)]
+
 ghost use Rattle.std.specs.Prelude.{◌≡◌, length};
 ghost use Rattle.std.proofs.lemmas.List.Edits.{sets};
 ghost use Rattle.wire.specs.Answers.{paper_size, with_room, written};

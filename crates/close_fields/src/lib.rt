@@ -1,5 +1,6 @@
 // What stands before a Forward Close's path, for both writers. Beside it in rseip-cip: `ForwardCloseRequest` in src/codec/encode.rs.
 #![tactic(auto)]
+
 ghost use Rattle.std.specs.Prelude.{◌≡◌};
 ghost use Rattle.std.proofs.lemmas.List.Edits.{sets};
 ghost use Rattle.wire.specs.Records.{laid};

@@ -1,5 +1,6 @@
 // Forward Close over a path that was written before: it is judged and copied, and no list of segments is needed.
 #![tactic(auto)]
+
 ghost use Rattle.std.specs.Prelude.{◌≡◌, ◌≤◌, length};
 ghost use Rattle.std.proofs.lemmas.List.Edits.{sets};
 ghost use Rattle.wire.specs.Answers.{paper_size, with_room, written};

@@ -1,6 +1,7 @@
 // Forward Close, read: ten bytes, path size, a reserved byte, path. rseip-cip has no such reader: it is added.
 // The reader answers the record, and start and length of its path in the input; the path is judged and its segments are read from that part.
 #![tactic(auto)]
+
 ghost use Rattle.std.specs.Prelude.{◌≡◌};
 ghost use Rattle.close_read.specs.Reads.{close_at, paper_close, read_close};
 

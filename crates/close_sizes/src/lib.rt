@@ -1,5 +1,6 @@
 // Forward Close: its size. Beside it in rseip-cip: `ForwardCloseRequest` in src/codec/encode.rs.
 #![tactic(auto)]
+
 ghost use Rattle.std.specs.Prelude.{◌≡◌};
 ghost use Rattle.wire.specs.Answers.{paper_size};
 ghost use Rattle.close_sizes.specs.Sizes.{close_size};

@@ -1,6 +1,7 @@
 // The Connection Manager's records and their enums, limits, the default record, and the setter's mask. Beside it in rseip-cip:
 // src/connection.rs, and src/service/request.rs for Unconnected Send.
 #![tactic(auto)]
+
 ghost use Rattle.std.specs.Prelude.{◌≡◌};
 ghost use Rattle.connection.specs.Defaults.{default_parameters, default_options, masked};
 

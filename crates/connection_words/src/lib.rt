@@ -1,6 +1,7 @@
 // The fields of a Connection Manager's record that have several parts in their bits: connection parameters here, class and trigger in
 // transport_words, whose answer is declared here beside its definition.
 #![tactic(auto)]
+
 mod codes; // codes.rt: the enums as numbers, and back
 mod fields; // fields.rt: connection parameters
 

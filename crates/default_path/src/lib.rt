@@ -1,5 +1,6 @@
 // The path of the default Forward Open. Beside it in rseip-cip: `OpenOptions::default` in src/connection.rs.
 #![tactic(auto)]
+
 ghost use Rattle.std.specs.Prelude.{◌≡◌};
 ghost use Rattle.epath_sizes.specs.Lists.{path_of};
 ghost use Rattle.default_path.specs.Default.{default_slots};

@@ -1,5 +1,6 @@
 // Reads one raw message from standard input and prints a line for each message in it, or only `refused N`.
 #![tactic(auto)]
+
 use wire::Wrote;
 
 // One byte more than a message may have is enough to see that it has too many. Of the answers only the first is ever given: MAX_TEXT is room for

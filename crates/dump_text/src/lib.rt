@@ -1,5 +1,6 @@
 // What the dump program prints: a line for each message, or the number of the refusal. The text goes into lent bytes.
 #![tactic(auto)]
+
 mod words; // words.rt: numbers as text
 
 ghost use Rattle.std.specs.Prelude.{◌≡◌, ◌*◌, ◌≤◌, length, get_or};

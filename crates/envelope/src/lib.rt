@@ -1,6 +1,7 @@
 // The two-item envelope: an item count of 2, an address item, a data item. Beside it in rseip-cip: `decode_connected_send` and
 // `decode_unconnected_send` in src/codec/decode/message_reply.rs; the walk over items that they use is not in the crate's pages.
 #![tactic(auto)]
+
 ghost use Rattle.std.specs.Prelude.{◌≡◌, ◌≤◌};
 ghost use Rattle.wire.specs.Answers.{paper_count, or_zero};
 ghost use Rattle.envelope.specs.Envelopes.{item_length, unconnected_at, connected_at, read_envelope, paper_envelope};

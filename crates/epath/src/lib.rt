@@ -1,5 +1,6 @@
 // CIP paths, whole: nothing of its own, all handed on from the crates that have it; proofs/ has the theorems on paths that no function needs.
 #![tactic(auto)]
+
 pub use epath_check::check_path;
 pub use epath_encode::{write_path, write_segment};
 pub use epath_lists::{blank_path, default_port, is_port};

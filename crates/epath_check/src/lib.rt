@@ -1,5 +1,6 @@
 // How many segments a path has, by the strict reader, which accepts exactly what the writer makes. rseip-cip has none: it is added.
 #![tactic(auto)]
+
 ghost use Rattle.std.specs.Prelude.{◌≡◌, ◌+◌, ◌≤◌, ◌<◌, length, get_or};
 ghost use Rattle.wire.specs.Answers.{paper_count};
 ghost use Rattle.epath_sizes.specs.Limits.{max_place, symbol_code};

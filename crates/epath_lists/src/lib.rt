@@ -1,5 +1,6 @@
 // The values of src/epath.rs in rseip-cip: the list that holds nothing, the default port, and whether a segment is a port.
 #![tactic(auto)]
+
 ghost use Rattle.std.specs.Prelude.{◌≡◌, []};
 ghost use Rattle.epath_sizes.specs.Lists.{path_of, backplane, is_port};
 

@@ -1,5 +1,6 @@
 // The segments of a path, by the strict reader, which accepts exactly what the writer makes. rseip-cip has none: it is added.
 #![tactic(auto)]
+
 ghost use Rattle.std.specs.Prelude.{◌≡◌, [], ◌≤◌, length};
 ghost use Rattle.wire.specs.Answers.{refused};
 ghost use Rattle.wire.specs.Refusals.{number};

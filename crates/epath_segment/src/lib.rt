@@ -1,5 +1,6 @@
 // One segment of a path, read strictly.
 #![tactic(auto)]
+
 mod decode; // decode.rt: the reader
 
 pub use decode::read_segment;

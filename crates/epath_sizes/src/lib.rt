@@ -1,5 +1,6 @@
 // CIP paths: segments, and their sizes. Beside it in rseip-cip: src/epath.rs.
 #![tactic(auto)]
+
 mod sizes; // sizes.rt: how many bytes a segment takes
 
 ghost use Rattle.std.specs.Prelude.{◌≡◌, [], ◌∷◌};

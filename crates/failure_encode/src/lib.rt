@@ -1,6 +1,7 @@
 // The reply to a Forward Open or a Forward Close that failed. Beside it in rseip-cip: `decode_forward_fail` in
 // src/codec/decode/message_reply.rs; the crate has no such writer: added.
 #![tactic(auto)]
+
 ghost use Rattle.std.specs.Prelude.{◌≡◌, length};
 ghost use Rattle.std.proofs.lemmas.List.Edits.{sets};
 ghost use Rattle.wire.specs.Answers.{paper_size, with_room, written, Put};

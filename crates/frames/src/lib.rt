@@ -1,6 +1,7 @@
 // Frames of the encapsulation protocol, collected from a stream that comes in scraps: document 02, Wish 1. A driver holds the state and lends it
 // with a buffer, the same at each call, in which the frame so far is kept. The crate rseip-cip has nothing like it in its pages.
 #![tactic(auto)]
+
 ghost use Rattle.std.specs.Prelude.{◌≡◌, ◌≤◌, ◌<◌, false, length, get_or};
 ghost use Rattle.wire.specs.Answers.{done, paper_count, judged};
 ghost use Rattle.frames.specs.Frames.{header_size, frame_length};

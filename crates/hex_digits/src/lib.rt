@@ -1,5 +1,6 @@
 // A hex digit of a value. It takes every argument.
 #![tactic(auto)]
+
 ghost use Rattle.std.specs.Prelude.{◌≡◌};
 ghost use Rattle.hex_digits.specs.Hex.{hex_digit};
 

@@ -1,5 +1,6 @@
 // A line of hex digits, taken a character at a time into lent bytes, so that a line may come in pieces and hold any run of blanks.
 #![tactic(auto)]
+
 ghost use Rattle.std.specs.Prelude.{◌≡◌};
 ghost use Rattle.lines.specs.Lines.{hex_value, byte_of, next, kept, next_digit, kept_digit, next_char, kept_char};
 

@@ -1,6 +1,7 @@
 // A line of hex digits: before its first character, and what it is when it has ended. line_chars takes the characters.
 // Each function takes every argument.
 #![tactic(auto)]
+
 ghost use Rattle.std.specs.Prelude.{◌≡◌};
 ghost use Rattle.lines.specs.Lines.{start, case_of, case_line};
 

@@ -1,5 +1,6 @@
 // The message request: its writer over a path that is given as its bytes, already written: judged, then copied. rseip-cip has none: it is added.
 #![tactic(auto)]
+
 ghost use Rattle.std.specs.Prelude.{◌≡◌, ◌≤◌, length};
 ghost use Rattle.std.proofs.lemmas.List.Edits.{sets};
 ghost use Rattle.wire.specs.Answers.{paper_size, with_room, written};

@@ -2,6 +2,7 @@
 // added. A reader answers the record, and its parts as starts and lengths in the input; the path is judged here and its segments are read from
 // that part.
 #![tactic(auto)]
+
 mod message; // message.rt: the message request
 mod route; // route.rt: what requests share, the path behind a size byte
 

@@ -1,6 +1,7 @@
 // Messages that hold messages, read to a depth of 3: a Multiple Service Packet holds those of its body, an Unconnected Send the one that it sends on.
 // rseip-cip has no such reader: it is added. What is read of each message is a row of four numbers, in a run of numbers that the caller lends.
 #![tactic(auto)]
+
 mod kinds; // kinds.rt: what a message opens
 mod rows; // rows.rt: the rows
 mod walk; // walk.rt: the reader of a message and the reader of a body, which call each other

@@ -1,5 +1,6 @@
 // Nested reading at its limits: the longest packet with the most messages that fit, one byte more, and lent rows and lent text of every kind of room.
 #![tactic(auto)]
+
 mod rows; // rows.rt: a run of numbers, filled and counted
 
 use wire::{Counted, Wrote};

@@ -1,5 +1,6 @@
 // Forward Open, small and large: the writers. Beside it in rseip-cip: `OpenOptions` in src/codec/encode.rs.
 #![tactic(auto)]
+
 mod open; // open.rt: over a list of segments
 mod over; // over.rt: over a path that was written before
 

@@ -2,6 +2,7 @@
 // no such reader: it is added.
 // The reader answers the record, and start and length of its path in the input; the path is judged and its segments are read from that part.
 #![tactic(auto)]
+
 ghost use Rattle.std.specs.Prelude.{◌≡◌, ◌≤◌, drop};
 ghost use Rattle.wire.specs.Numbers.{value_of};
 ghost use Rattle.connection_words.specs.Fields.{transport, paper_parameters, paper_transport};

@@ -1,5 +1,6 @@
 // Forward Open, small and large: its size. Beside it in rseip-cip: `OpenOptions` in src/codec/encode.rs.
 #![tactic(auto)]
+
 ghost use Rattle.std.specs.Prelude.{◌≡◌, ◌≤◌};
 ghost use Rattle.wire.specs.Answers.{paper_size};
 ghost use Rattle.open_sizes.specs.Sizes.{open_base, open_size};

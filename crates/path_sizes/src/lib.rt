@@ -1,5 +1,6 @@
 // CIP paths: how many bytes a list of segments takes. Beside it in rseip-cip: `bytes_count` of `EPath`, src/codec/encode/epath.rs.
 #![tactic(auto)]
+
 ghost use Rattle.std.specs.Prelude.{◌≡◌};
 ghost use Rattle.wire.specs.Answers.{paper_size};
 ghost use Rattle.epath_sizes.specs.Sizes.{path_size};

@@ -1,6 +1,7 @@
 // Replies, whole: what callers use of statuses, reply_header, reply_read, success_encode and failure_encode, handed on. Beside it in rseip-cip:
 // src/codec/decode/message_reply.rs.
 #![tactic(auto)]
+
 pub use failure_encode::write_forward_failure;
 pub use reply_header::read_reply_header;
 pub use reply_read::{

@@ -1,6 +1,7 @@
 // A reply's header: service, a reserved byte, general status, word count, extended words. Beside it in rseip-cip: `MessageReply` in src/message.rs,
 // and `decode_service_and_status` in src/codec/decode/message_reply.rs.
 #![tactic(auto)]
+
 ghost use Rattle.std.specs.Prelude.{◌≡◌};
 ghost use Rattle.reply_header.specs.Headers.{status_at, read_header, paper_reply};
 

@@ -1,6 +1,7 @@
 // The Forward Open and Forward Close replies: readers. Beside it in rseip-cip: src/codec/decode/message_reply.rs.
 // A reader answers the header, the record, and the application data as a start and a length in the input.
 #![tactic(auto)]
+
 mod close; // close.rt: the Forward Close reply
 mod failure; // failure.rt: what a failed Forward Open or Close carries
 mod open; // open.rt: the Forward Open reply

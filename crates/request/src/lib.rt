@@ -2,6 +2,7 @@
 // Unconnected Send.
 // A reader answers the record, and its parts as starts and lengths in the input; the path is judged and its segments are read from that part.
 #![tactic(auto)]
+
 pub use close_encode::write_forward_close;
 pub use close_read::{CloseRead, read_forward_close};
 pub use close_sizes::forward_close_size;

@@ -1,5 +1,6 @@
 // What the Connection Manager's requests share: the first byte, read. rseip-cip has no readers of requests: they are added.
 #![tactic(auto)]
+
 ghost use Rattle.std.specs.Prelude.{◌≡◌};
 ghost use Rattle.request_first.specs.Firsts.{verdict, paper_judged, first_rules};
 

@@ -1,5 +1,6 @@
 // The path behind a size byte.
 #![tactic(auto)]
+
 ghost use Rattle.std.specs.Prelude.{◌≡◌};
 ghost use Rattle.wire.specs.Answers.{paper_size};
 ghost use Rattle.route.specs.Routes.{route_size};

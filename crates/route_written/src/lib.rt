@@ -1,5 +1,6 @@
 // The path behind a size byte, given as its bytes already written: judged, and not taken apart.
 #![tactic(auto)]
+
 ghost use Rattle.std.specs.Prelude.{◌≡◌};
 ghost use Rattle.wire.specs.Answers.{paper_count, paper_size};
 ghost use Rattle.route_written.specs.Written.{written_route, over_size};

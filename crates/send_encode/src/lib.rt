@@ -1,6 +1,7 @@
 // Unconnected Send: the writer over a list of segments. Beside it in rseip-cip: `UnconnectedSend` in src/codec/encode.rs and
 // src/service/request.rs.
 #![tactic(auto)]
+
 ghost use Rattle.std.specs.Prelude.{◌≡◌, ◌+◌, ◌%◌, ◌≤◌, length};
 ghost use Rattle.std.proofs.lemmas.List.Edits.{sets};
 ghost use Rattle.wire.specs.Answers.{paper_size, with_room, written};

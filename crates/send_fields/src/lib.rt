@@ -1,6 +1,7 @@
 // What stands around an Unconnected Send's message, for both writers. Beside it in rseip-cip: `UnconnectedSend` in src/codec/encode.rs and
 // src/service/request.rs.
 #![tactic(auto)]
+
 ghost use Rattle.std.specs.Prelude.{◌≡◌, ◌+◌};
 ghost use Rattle.std.proofs.lemmas.List.Edits.{sets};
 ghost use Rattle.wire.specs.Records.{laid};

@@ -2,6 +2,7 @@
 // such reader: it is added.
 // The reader answers the record, and its parts as starts and lengths in the input; the path is judged and its segments are read from that part.
 #![tactic(auto)]
+
 ghost use Rattle.std.specs.Prelude.{◌≡◌, ◌%◌, drop};
 ghost use Rattle.wire.specs.Numbers.{value_of};
 ghost use Rattle.request_first.specs.Firsts.{verdict, paper_judged};

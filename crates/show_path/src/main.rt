@@ -1,5 +1,6 @@
 // Reads the raw bytes of a path from standard input and prints one line a segment, or only `refused N`.
 #![tactic(auto)]
+
 mod show; // show.rt: words, numbers and bytes on standard output
 
 use epath::{Path, PortSegment, Segment, SymbolSegment};

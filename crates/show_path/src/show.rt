@@ -12,7 +12,10 @@ pub(crate) fn named(word: &[u8], n: u64) {
 
 // A byte in two digits, with capital letters, which io::print_hex does not give.
 fn hex(b: u8) {
-    io::write_all(1, &[hex_digits::hex_digit(b / 16), hex_digits::hex_digit(b)]);
+    io::write_all(
+        1,
+        &[hex_digits::hex_digit(b / 16), hex_digits::hex_digit(b)],
+    );
 }
 
 // Each byte in hex, with a space before it.

@@ -1,5 +1,6 @@
 // What a status says. Beside it in rseip-cip: src/status.rs.
 #![tactic(auto)]
+
 ghost use Rattle.std.specs.Prelude.{◌≡◌};
 ghost use Rattle.statuses.specs.Statuses.{is_ok, routing_word, is_routing_error};
 

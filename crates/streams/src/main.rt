@@ -1,6 +1,7 @@
 // Streams of frames, given to `take_scrap` in cuts of many sizes over one buffer: every cut gives the same frames, each with the call that brings its
 // last byte; and a frame that is too long for the buffer, which is refused until a reset.
 #![tactic(auto)]
+
 mod make; // make.rt: the stream
 mod run; // run.rt: a driver, which holds the state
 

@@ -1,6 +1,7 @@
 // Replies to a Forward Open and a Forward Close that were served: writers. Beside it in rseip-cip: src/codec/decode/message_reply.rs, which reads
 // them; the crate has no such writer: added.
 #![tactic(auto)]
+
 mod close; // close.rt: a Forward Close that was served
 mod open; // open.rt: a Forward Open that was served
 mod success; // success.rt: application data

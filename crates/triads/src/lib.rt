@@ -1,6 +1,7 @@
 // What names a connection: its serial number, and its originator's vendor and serial number. Beside it in rseip-cip: the same three fields in
 // src/codec/encode.rs and src/codec/decode/message_reply.rs.
 #![tactic(auto)]
+
 ghost use Rattle.std.specs.Prelude.{◌≡◌};
 ghost use Rattle.std.proofs.lemmas.List.Edits.{sets};
 ghost use Rattle.wire.specs.Records.{laid};

@@ -1,6 +1,7 @@
 // Bodies of many items: for each number on a line of standard input a body of so many items is written, read, walked in one judgement, and joined
 // again from its two halves. Its cost goes by the length (docs/DECISIONS.md, 70).
 #![tactic(auto)]
+
 mod make; // make.rt: the items, and their lengths
 mod walk; // walk.rt: a walk over a body
 

@@ -1,6 +1,7 @@
 // What knows no CIP: why something is refused, and the answers that count or size. Bytes and low-byte-first numbers in lent slices are read by
 // `wire_read` and stored by `wire_write`; their definitions and laws stand here, in specs/ and proofs/.
 #![tactic(auto)]
+
 ghost use Rattle.std.specs.Prelude.{◌≡◌};
 ghost use Rattle.wire.specs.Refusals.{number};
 

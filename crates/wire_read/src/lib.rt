@@ -1,5 +1,6 @@
 // Bytes and low-byte-first numbers in lent slices, read. Each function takes every argument: what lies past the end of a slice reads as 0.
 #![tactic(auto)]
+
 ghost use Rattle.std.specs.Prelude.{◌≡◌, get_or, drop};
 ghost use Rattle.wire.specs.Numbers.{value_of};
 ghost use Rattle.wire.specs.Parts.{part};

@@ -1,5 +1,6 @@
 // Bytes and low-byte-first numbers in lent slices, stored. Each public function takes every argument: a store past the end changes nothing.
 #![tactic(auto)]
+
 ghost use Rattle.std.specs.Prelude.{◌≡◌, ◌+◌, ◌≤◌, length, set, take};
 ghost use Rattle.std.proofs.lemmas.List.Edits.{sets};
 ghost use Rattle.wire.specs.Numbers.{low_first};

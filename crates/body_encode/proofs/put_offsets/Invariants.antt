@@ -1,10 +1,4 @@
 -- `body_encode::put_offsets` meets its contract. Assumes nothing.
---: use Rattle.body_encode.proofs.WriteLaws.{Placing, placing_laws}
---: use Prim.Native.Nat.{◌-◌}
---: use lib.ListN.{length}
---: invariant-loop = Placing l.lengths l.initial.out l.out l.at l.i
---: decreases-loop = length l.lengths - l.i
---: * = search (placing_laws, rules) fits 5000
 use Rattle.body_encode.proofs.WriteLaws.{Placing}
 use Prim.Native.Nat.{◌-◌}
 use lib.ListN.{length}
@@ -13,6 +7,5 @@ use Rattle.body_encode.proofs.put_offsets.Given as goal
 abbrev pub invariant-loop-i : goal.invariant-loop-i
 invariant-loop-i l = Placing l.lengths l.initial.out l.out l.at l.i
 
--- proposed from the loop's first test
 abbrev pub decreases-loop-i : goal.decreases-loop-i
 decreases-loop-i l = length l.lengths - l.i

@@ -1,6 +1,4 @@
 -- `body_encode::write_body` meets its contract. Assumes nothing.
---: use Rattle.wire.proofs.Answers.{writer_laws}
---: use Rattle.body_encode.proofs.WriteLaws.{body_laws}
 --: * = search (writer_laws, body_laws, rules) fits 5000
 use Rattle.wire.proofs.Answers.{writer_laws}
 use Rattle.body_encode.proofs.WriteLaws.{body_laws}

@@ -1,5 +1,4 @@
 -- `body_items::body_item` meets its contract. Assumes nothing.
---: use Rattle.body_items.proofs.ItemLaws.{item_laws}
 --: * = search (item_laws, rules) fits 5000
 use Rattle.body_items.proofs.ItemLaws.{item_laws}
 use Rattle.std.proofs.Common.{rules}

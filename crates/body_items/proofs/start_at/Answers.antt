@@ -1,5 +1,4 @@
 -- `body_items::start_at` meets its contract. Assumes nothing.
---: use Rattle.body_items.proofs.ItemLaws.{offset_laws}
 --: * = search (offset_laws, rules) fits 5000
 use Rattle.body_items.proofs.ItemLaws.{offset_laws}
 use Rattle.std.proofs.Common.{rules}

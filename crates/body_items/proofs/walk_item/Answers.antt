@@ -1,5 +1,4 @@
 -- `body_items::walk_item` meets its contract. Assumes nothing.
---: use Rattle.body_items.proofs.ItemLaws.{walk_laws}
 --: * = search (walk_laws, rules) fits 5000
 use Rattle.body_items.proofs.ItemLaws.{walk_laws}
 use Rattle.std.proofs.Common.{rules}

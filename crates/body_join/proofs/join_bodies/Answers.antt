@@ -1,6 +1,4 @@
 -- `body_join::join_bodies` meets its contract. Assumes nothing.
---: use Rattle.wire.proofs.Answers.{writer_laws}
---: use Rattle.body_join.proofs.JoinLaws.{join_laws}
 --: * = search (writer_laws, join_laws, rules) fits 5000
 use Rattle.wire.proofs.Answers.{writer_laws}
 use Rattle.body_join.proofs.JoinLaws.{join_laws}

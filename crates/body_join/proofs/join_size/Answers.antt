@@ -1,5 +1,4 @@
 -- `body_join::join_size` meets its contract. Assumes nothing.
---: use Rattle.body_join.proofs.JoinLaws.{size_laws}
 --: * = search (size_laws, rules) fits 5000
 use Rattle.body_join.proofs.JoinLaws.{size_laws}
 use Rattle.std.proofs.Common.{rules}

@@ -1,5 +1,4 @@
 -- `body_join::put_joined` meets its contract. Assumes nothing.
---: use Rattle.body_join.proofs.JoinLaws.{put_laws}
 --: * = search (put_laws, rules) fits 5000
 use Rattle.body_join.proofs.JoinLaws.{put_laws}
 use Rattle.std.proofs.Common.{rules}

@@ -1,8 +1,4 @@
 -- `body_read::judge_later` meets its contract. Assumes nothing.
---: use Rattle.body_read.proofs.ReadLaws.{Reading, reading_laws}
---: use Prim.Native.Nat.{◌-◌}
---: invariant-loop = Reading l.s l.n l.last l.k
---: decreases-loop = l.n - l.k
 --: * = search (reading_laws, rules) fits 5000
 use Rattle.body_read.proofs.ReadLaws.{reading_laws}
 use Rattle.std.proofs.Common.{rules}

@@ -1,5 +1,4 @@
 -- `body_read::judge_table` meets its contract. Assumes nothing.
---: use Rattle.body_read.proofs.ReadLaws.{table_laws}
 --: * = search (table_laws, rules) fits 5000
 use Rattle.body_read.proofs.ReadLaws.{table_laws}
 use Rattle.std.proofs.Common.{rules}

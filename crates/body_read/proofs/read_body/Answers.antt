@@ -1,5 +1,4 @@
 -- `body_read::read_body` meets its contract. Assumes nothing.
---: use Rattle.body_read.proofs.ReadLaws.{read_laws}
 --: * = search (read_laws, rules) fits 5000
 use Rattle.body_read.proofs.ReadLaws.{read_laws}
 use Rattle.std.proofs.Common.{rules}

@@ -1,5 +1,4 @@
 -- `body_replies::reply_in` meets its contract. Assumes nothing.
---: use Rattle.body_replies.proofs.ReplyLaws.{in-laws}
 --: * = search (in-laws, rules) fits 5000
 use Rattle.body_replies.proofs.ReplyLaws.{in-laws}
 use Rattle.std.proofs.Common.{rules}

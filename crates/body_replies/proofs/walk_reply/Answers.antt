@@ -1,5 +1,4 @@
 -- `body_replies::walk_reply` meets its contract. Assumes nothing.
---: use Rattle.body_replies.proofs.ReplyLaws.{item_laws}
 --: * = search (item_laws, rules) fits 5000
 use Rattle.body_replies.proofs.ReplyLaws.{item_laws}
 use Rattle.std.proofs.Common.{rules}

@@ -1,5 +1,4 @@
 -- `body_sizes::body_size` meets its contract. Assumes nothing.
---: use Rattle.body_sizes.proofs.SizeLaws.{size_laws}
 --: * = search (size_laws, rules) fits 5000
 use Rattle.body_sizes.proofs.SizeLaws.{size_laws}
 use Rattle.std.proofs.Common.{rules}

@@ -1,9 +1,4 @@
 -- `body_sizes::items_size` meets its contract. Assumes nothing.
---: use Rattle.body_sizes.proofs.SizeLaws.{Judging, judging_laws}
---: use Prim.Native.Nat.{◌-◌}
---: use lib.ListN.{length}
---: invariant-loop = Judging l.lent l.lengths l.left l.i
---: decreases-loop = length l.lengths - l.i
 --: * = search (judging_laws, rules) fits 5000
 use Rattle.body_sizes.proofs.SizeLaws.{judging_laws}
 use Rattle.std.proofs.Common.{rules}

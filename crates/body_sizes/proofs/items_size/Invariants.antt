@@ -1,10 +1,4 @@
 -- `body_sizes::items_size` meets its contract. Assumes nothing.
---: use Rattle.body_sizes.proofs.SizeLaws.{Judging, judging_laws}
---: use Prim.Native.Nat.{◌-◌}
---: use lib.ListN.{length}
---: invariant-loop = Judging l.lent l.lengths l.left l.i
---: decreases-loop = length l.lengths - l.i
---: * = search (judging_laws, rules) fits 5000
 use Rattle.body_sizes.proofs.SizeLaws.{Judging}
 use Prim.Native.Nat.{◌-◌}
 use lib.ListN.{length}
@@ -13,6 +7,5 @@ use Rattle.body_sizes.proofs.items_size.Given as goal
 abbrev pub invariant-loop-i : goal.invariant-loop-i
 invariant-loop-i l = Judging l.lent l.lengths l.left l.i
 
--- proposed from the loop's first test
 abbrev pub decreases-loop-i : goal.decreases-loop-i
 decreases-loop-i l = length l.lengths - l.i

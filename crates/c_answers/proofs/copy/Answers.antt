@@ -1,9 +1,4 @@
 -- `c_answers::copy` meets its contract. Assumes nothing.
---: use Rattle.wire.proofs.Stores.{Copying}
---: use Rattle.c_answers.proofs.Laws.{front_laws}
---: use Prim.Native.Nat.{◌-◌}
---: invariant-loop = Copying l.initial.fields 0 l.src l.n l.fields l.i
---: decreases-loop = l.n - l.i
 --: * = search (front_laws, rules) fits 5000
 use Rattle.c_answers.proofs.Laws.{front_laws}
 use Rattle.std.proofs.Common.{rules}

@@ -1,5 +1,4 @@
 -- `c_answers::fill` meets its contract. Assumes nothing.
---: use Rattle.c_answers.proofs.Laws.{fill_laws}
 --: * = search (fill_laws, rules) fits 5000
 use Rattle.c_answers.proofs.Laws.{fill_laws}
 use Rattle.std.proofs.Common.{rules}

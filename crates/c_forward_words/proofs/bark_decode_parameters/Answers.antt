@@ -1,9 +1,4 @@
 -- `c_forward_words::bark_decode_parameters` meets its contract. Assumes nothing.
---: use Rattle.connection_words.specs.Fields.{paper_parameters}
---: use Rattle.c_answers.proofs.Laws.{run_refused, run_kept, run_answer_lem, run_stored}
---: use Rattle.c_forward_words.specs.Words.{parameter_numbers}
---: use Rattle.c_forward_words.proofs.Laws.{decode_laws}
---: returns = search (run_refused paper_parameters parameter_numbers, run_kept paper_parameters parameter_numbers, decode_laws, rules) fits 5000
 --: * = search (run_answer_lem paper_parameters parameter_numbers, run_stored paper_parameters parameter_numbers, decode_laws, rules) fits 5000
 use Rattle.connection_words.specs.Fields.{paper_parameters}
 use Rattle.c_answers.proofs.Laws.{run_answer_lem, run_stored}

@@ -1,6 +1,4 @@
 -- `c_forward_words::bark_encode_parameters` meets its contract. Assumes nothing.
---: use Rattle.connection_words.proofs.FieldLaws.{bit_code}
---: use Rattle.c_forward_words.proofs.Laws.{encode_laws}
 --: * = search (encode_laws, rules, bit_code.most c.args.variable_length, bit_code.most c.args.redundant_owner) fits 5000
 use Rattle.connection_words.proofs.FieldLaws.{bit_code}
 use Rattle.c_forward_words.proofs.Laws.{encode_laws}

@@ -1,5 +1,4 @@
 -- `c_open_writes::bark_write_forward_open` meets its contract. Assumes nothing.
---: use Rattle.c_open_writes.proofs.Laws.{given_laws}
 --: * = search (given_laws, rules) fits 5000
 use Rattle.c_open_writes.proofs.Laws.{given_laws}
 use Rattle.std.proofs.Common.{rules}

@@ -1,5 +1,4 @@
 -- `c_open_writes::read_words` meets its contract. Assumes nothing.
---: use Rattle.c_open_writes.proofs.Laws.{words_laws}
 --: * = search (words_laws, rules) fits 5000
 use Rattle.c_open_writes.proofs.Laws.{words_laws}
 use Rattle.std.proofs.Common.{rules}

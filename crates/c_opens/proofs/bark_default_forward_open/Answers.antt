@@ -1,5 +1,4 @@
 -- `c_opens::bark_default_forward_open` meets its contract. Assumes nothing.
---: use Rattle.c_opens.proofs.Laws.{default_laws}
 --: * = search (default_laws, rules) fits 5000
 use Rattle.c_opens.proofs.Laws.{default_laws}
 use Rattle.std.proofs.Common.{rules}

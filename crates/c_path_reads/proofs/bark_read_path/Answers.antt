@@ -1,6 +1,4 @@
 -- `c_path_reads::bark_read_path` meets its contract. Assumes nothing.
---: use Rattle.c_answers.proofs.Laws.{told_laws}
---: use Rattle.c_path_reads.proofs.ReadLaws.{path_laws}
 --: * = search (told_laws, path_laws, rules) fits 5000
 use Rattle.c_answers.proofs.Laws.{told_laws}
 use Rattle.c_path_reads.proofs.ReadLaws.{path_laws}

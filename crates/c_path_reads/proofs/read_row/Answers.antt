@@ -1,6 +1,4 @@
 -- `c_path_reads::read_row` meets its contract. Assumes nothing.
---: use Rattle.epath_check.proofs.Places.{place_laws}
---: use Rattle.c_path_reads.proofs.ReadLaws.{place_rows}
 --: * = search (place_rows, place_laws, rules) fits 5000
 use Rattle.epath_check.proofs.Places.{place_laws}
 use Rattle.c_path_reads.proofs.ReadLaws.{place_rows}

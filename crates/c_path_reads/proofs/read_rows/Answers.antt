@@ -1,9 +1,4 @@
 -- `c_path_reads::read_rows` meets its contract. Assumes nothing.
---: use Prim.Native.Nat.{◌-◌}
---: use Rattle.epath_sizes.specs.Limits.{max_segments}
---: use Rattle.c_path_reads.proofs.ReadLaws.{Reading, reading_laws}
---: invariant-loop = Reading l.path l.initial.rows l.rows l.at l.i
---: decreases-loop = max_segments - l.i
 --: * = search (reading_laws, rules) fits 5000
 use Rattle.c_path_reads.proofs.ReadLaws.{reading_laws}
 use Rattle.std.proofs.Common.{rules}

@@ -1,10 +1,4 @@
 -- `c_path_reads::read_rows` meets its contract. Assumes nothing.
---: use Prim.Native.Nat.{◌-◌}
---: use Rattle.epath_sizes.specs.Limits.{max_segments}
---: use Rattle.c_path_reads.proofs.ReadLaws.{Reading, reading_laws}
---: invariant-loop = Reading l.path l.initial.rows l.rows l.at l.i
---: decreases-loop = max_segments - l.i
---: * = search (reading_laws, rules) fits 5000
 use Prim.Native.Nat.{◌-◌}
 use Rattle.epath_sizes.specs.Limits.{max_segments}
 use Rattle.c_path_reads.proofs.ReadLaws.{Reading}
@@ -13,6 +7,5 @@ use Rattle.c_path_reads.proofs.read_rows.Given as goal
 abbrev pub invariant-loop-at : goal.invariant-loop-at
 invariant-loop-at l = Reading l.path l.initial.rows l.rows l.at l.i
 
--- proposed from the loop's first test
 abbrev pub decreases-loop-at : goal.decreases-loop-at
 decreases-loop-at l = max_segments - l.i

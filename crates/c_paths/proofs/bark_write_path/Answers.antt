@@ -1,7 +1,4 @@
 -- `c_paths::bark_write_path` meets its contract. Assumes nothing.
---: use Rattle.wire.proofs.Answers.{writer_laws}
---: use Rattle.c_answers.proofs.Laws.{told_laws}
---: use Rattle.c_paths.proofs.PathLaws.{rows_laws}
 --: * = search (told_laws, writer_laws, rows_laws, rules) fits 5000
 use Rattle.wire.proofs.Answers.{writer_laws}
 use Rattle.c_answers.proofs.Laws.{told_laws}

@@ -1,5 +1,4 @@
 -- `c_reply_walk::bark_read_replies` meets its contract. Assumes nothing.
---: use Rattle.c_reply_walk.proofs.Laws.{end_laws}
 --: * = search (end_laws, rules) fits 5000
 use Rattle.c_reply_walk.proofs.Laws.{end_laws}
 use Rattle.std.proofs.Common.{rules}

@@ -1,8 +1,4 @@
 -- `c_reply_walk::put_replies` meets its contract. Assumes nothing.
---: use Rattle.c_reply_walk.proofs.Laws.{Turn, turn_laws}
---: use Prim.Native.Nat.{◌-◌}
---: invariant-loop = Turn l.s l.n l.initial.rows l.rows l.k
---: decreases-loop = l.n - l.k
 --: * = search (turn_laws, rules) fits 5000
 use Rattle.c_reply_walk.proofs.Laws.{turn_laws}
 use Rattle.std.proofs.Common.{rules}

@@ -1,9 +1,4 @@
 -- `c_transport_words::bark_decode_transport` meets its contract. Assumes nothing.
---: use Rattle.connection_words.specs.Fields.{paper_transport}
---: use Rattle.c_answers.proofs.Laws.{run_refused, run_kept, run_answer_lem, run_stored}
---: use Rattle.c_transport_words.specs.Transports.{transport_numbers}
---: use Rattle.c_transport_words.proofs.Laws.{byte_laws}
---: returns = search (run_refused paper_transport transport_numbers, run_kept paper_transport transport_numbers, byte_laws, rules) fits 5000
 --: * = search (run_answer_lem paper_transport transport_numbers, run_stored paper_transport transport_numbers, byte_laws, rules) fits 5000
 use Rattle.connection_words.specs.Fields.{paper_transport}
 use Rattle.c_answers.proofs.Laws.{run_answer_lem, run_stored}

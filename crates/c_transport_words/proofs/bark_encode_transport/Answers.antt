@@ -1,6 +1,4 @@
 -- `c_transport_words::bark_encode_transport` meets its contract. Assumes nothing.
---: use Rattle.connection_words.proofs.FieldLaws.{bit_code}
---: use Rattle.c_transport_words.proofs.Laws.{transport_laws}
 --: * = search (transport_laws, rules, bit_code.most c.args.server) fits 5000
 use Rattle.connection_words.proofs.FieldLaws.{bit_code}
 use Rattle.c_transport_words.proofs.Laws.{transport_laws}

@@ -1,6 +1,4 @@
 -- `close_encode::put_close` meets its contract. Assumes nothing.
---: use Rattle.route.proofs.RouteLaws.{put_laws}
---: use Rattle.close_encode.proofs.WriteLaws.{close_put}
 --: * = search (put_laws, close_put, rules) fits 5000
 use Rattle.route.proofs.RouteLaws.{put_laws}
 use Rattle.close_encode.proofs.WriteLaws.{close_put}

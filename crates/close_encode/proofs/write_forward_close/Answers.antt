@@ -1,6 +1,4 @@
 -- `close_encode::write_forward_close` meets its contract. Assumes nothing.
---: use Rattle.wire.proofs.Answers.{writer_laws}
---: use Rattle.close_sizes.proofs.SizeLaws.{ready_laws, length_laws}
 --: * = search (writer_laws, ready_laws, length_laws, rules) fits 5000
 use Rattle.wire.proofs.Answers.{writer_laws}
 use Rattle.close_sizes.proofs.SizeLaws.{ready_laws, length_laws}

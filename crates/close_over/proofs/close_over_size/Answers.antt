@@ -1,5 +1,4 @@
 -- `close_over::close_over_size` meets its contract. Assumes nothing.
---: use Rattle.close_over.proofs.OverLaws.{over_laws}
 --: * = search (over_laws, rules) fits 5000
 use Rattle.close_over.proofs.OverLaws.{over_laws}
 use Rattle.std.proofs.Common.{rules}

@@ -1,5 +1,4 @@
 -- `close_over::put_close_over` meets its contract. Assumes nothing.
---: use Rattle.close_fields.proofs.Laws.{close_laid}
 --: * = search (close_laid, rules) fits 5000
 use Rattle.close_fields.proofs.Laws.{close_laid}
 use Rattle.std.proofs.Common.{rules}

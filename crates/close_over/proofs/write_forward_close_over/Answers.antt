@@ -1,6 +1,4 @@
 -- `close_over::write_forward_close_over` meets its contract. Assumes nothing.
---: use Rattle.wire.proofs.Answers.{writer_laws}
---: use Rattle.close_over.proofs.OverLaws.{judged_laws}
 --: * = search (writer_laws, judged_laws, rules) fits 5000
 use Rattle.wire.proofs.Answers.{writer_laws}
 use Rattle.close_over.proofs.OverLaws.{judged_laws}

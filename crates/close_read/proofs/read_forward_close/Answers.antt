@@ -1,5 +1,4 @@
 -- `close_read::read_forward_close` meets its contract. Assumes nothing.
---: use Rattle.close_read.proofs.ReadLaws.{close_laws}
 --: * = search (close_laws, rules) fits 5000
 use Rattle.close_read.proofs.ReadLaws.{close_laws}
 use Rattle.std.proofs.Common.{rules}

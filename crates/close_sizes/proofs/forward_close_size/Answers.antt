@@ -1,5 +1,4 @@
 -- `close_sizes::forward_close_size` meets its contract. Assumes nothing.
---: use Rattle.close_sizes.proofs.SizeLaws.{size_laws}
 --: * = search (size_laws, rules) fits 5000
 use Rattle.close_sizes.proofs.SizeLaws.{size_laws}
 use Rattle.std.proofs.Common.{rules}

@@ -1,5 +1,4 @@
 -- `dump_text::put_line` meets its contract. Assumes nothing.
---: use Rattle.dump_text.proofs.TextLaws.{line_laws}
 --: * = search (line_laws, rules) fits 5000
 use Rattle.dump_text.proofs.TextLaws.{line_laws}
 use Rattle.std.proofs.Common.{rules}

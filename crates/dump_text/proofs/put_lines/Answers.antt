@@ -1,7 +1,4 @@
 -- `dump_text::put_lines` meets its contract. Assumes nothing.
---: use Rattle.dump_text.proofs.TextLaws.{lines_laws, Lines}
---: invariant-loop = Lines l.rows l.n l.rest l.at l.initial.out l.out
---: decreases-loop = l.rest
 --: * = search (lines_laws, rules) fits 5000
 use Rattle.dump_text.proofs.TextLaws.{lines_laws}
 use Rattle.std.proofs.Common.{rules}

@@ -1,5 +1,4 @@
 -- `dump_text::write_by` meets its contract. Assumes nothing.
---: use Rattle.dump_text.proofs.TextLaws.{dump_laws}
 --: * = search (dump_laws, rules) fits 5000
 use Rattle.dump_text.proofs.TextLaws.{dump_laws}
 use Rattle.std.proofs.Common.{rules}

@@ -1,6 +1,4 @@
 -- `envelope::connected_at` meets its contract. Assumes nothing.
---: use Rattle.wire.proofs.Rules.{rules}
---: use Rattle.envelope.proofs.ReadLaws.{two_laws}
 --: * = search (two_laws, rules, rules) fits 5000
 use Rattle.wire.proofs.Rules.{rules}
 use Rattle.envelope.proofs.ReadLaws.{two_laws}

@@ -1,5 +1,4 @@
 -- `envelope::item_at` meets its contract. Assumes nothing.
---: use Rattle.envelope.proofs.ReadLaws.{item_laws}
 --: * = search (item_laws, rules) fits 5000
 use Rattle.envelope.proofs.ReadLaws.{item_laws}
 use Rattle.std.proofs.Common.{rules}

@@ -1,5 +1,4 @@
 -- `envelope::read_envelope` meets its contract. Assumes nothing.
---: use Rattle.envelope.proofs.ReadLaws.{envelope_laws}
 --: * = search (envelope_laws, rules) fits 5000
 use Rattle.envelope.proofs.ReadLaws.{envelope_laws}
 use Rattle.std.proofs.Common.{rules}

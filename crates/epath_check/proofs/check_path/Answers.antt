@@ -1,9 +1,4 @@
 -- `epath_check::check_path` meets its contract. Assumes nothing.
---: use Rattle.epath_check.proofs.Walks.{Counting, counting_laws}
---: use Prim.Native.Nat.{◌-◌}
---: use Rattle.epath_sizes.specs.Limits.{max_segments}
---: invariant-loop = Counting l.s l.seen l.at
---: decreases-loop = max_segments - l.seen
 --: * = search (counting_laws, rules) fits 5000
 use Rattle.epath_check.proofs.Walks.{counting_laws}
 use Rattle.std.proofs.Common.{rules}

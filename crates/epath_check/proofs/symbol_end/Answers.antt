@@ -1,5 +1,4 @@
 -- `epath_check::symbol_end` meets its contract. Assumes nothing.
---: use Rattle.epath_check.proofs.Ends.{symbol_laws}
 --: * = search (symbol_laws, rules) fits 5000
 use Rattle.epath_check.proofs.Ends.{symbol_laws}
 use Rattle.std.proofs.Common.{rules}

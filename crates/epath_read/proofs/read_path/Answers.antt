@@ -1,9 +1,4 @@
 -- `epath_read::read_path` meets its contract. Assumes nothing.
---: use Rattle.epath_read.proofs.FillLaws.{Filling, filling_laws}
---: use Prim.Native.Nat.{◌-◌}
---: use Rattle.epath_sizes.specs.Limits.{max_segments}
---: invariant-loop = Filling l.s l.slots l.count l.place
---: decreases-loop = max_segments - l.count
 --: * = search (filling_laws, rules) fits 5000
 use Rattle.epath_read.proofs.FillLaws.{filling_laws}
 use Rattle.std.proofs.Common.{rules}

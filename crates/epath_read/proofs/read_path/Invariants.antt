@@ -1,10 +1,4 @@
 -- `epath_read::read_path` meets its contract. Assumes nothing.
---: use Rattle.epath_read.proofs.FillLaws.{Filling, filling_laws}
---: use Prim.Native.Nat.{◌-◌}
---: use Rattle.epath_sizes.specs.Limits.{max_segments}
---: invariant-loop = Filling l.s l.slots l.count l.place
---: decreases-loop = max_segments - l.count
---: * = search (filling_laws, rules) fits 5000
 use Rattle.epath_read.proofs.FillLaws.{Filling}
 use Prim.Native.Nat.{◌-◌}
 use Rattle.epath_sizes.specs.Limits.{max_segments}
@@ -13,6 +7,5 @@ use Rattle.epath_read.proofs.read_path.Given as goal
 abbrev pub invariant-loop-place : goal.invariant-loop-place
 invariant-loop-place l = Filling l.s l.slots l.count l.place
 
--- proposed from the loop's first test
 abbrev pub decreases-loop-place : goal.decreases-loop-place
 decreases-loop-place l = max_segments - l.count

@@ -1,5 +1,4 @@
 -- `epath_read::segment_at` meets its contract. Assumes nothing.
---: use Rattle.epath_check.proofs.Places.{place_laws}
 --: * = search (place_laws, rules) fits 5000
 use Rattle.epath_check.proofs.Places.{place_laws}
 use Rattle.std.proofs.Common.{rules}

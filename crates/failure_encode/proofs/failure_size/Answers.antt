@@ -1,5 +1,4 @@
 -- `failure_encode::failure_size` meets its contract. Assumes nothing.
---: use Rattle.failure_encode.proofs.SizeLaws.{failure_ends}
 --: * = search (failure_ends, rules) fits 5000
 use Rattle.failure_encode.proofs.SizeLaws.{failure_ends}
 use Rattle.std.proofs.Common.{rules}

@@ -1,5 +1,4 @@
 -- `failure_encode::put_failure` meets its contract. Assumes nothing.
---: use Rattle.failure_encode.proofs.WriteLaws.{failure_laws}
 --: * = search (failure_laws, rules) fits 5000
 use Rattle.failure_encode.proofs.WriteLaws.{failure_laws}
 use Rattle.std.proofs.Common.{rules}

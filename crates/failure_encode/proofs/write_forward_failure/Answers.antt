@@ -1,6 +1,4 @@
 -- `failure_encode::write_forward_failure` meets its contract. Assumes nothing.
---: use Rattle.wire.proofs.Answers.{writer_laws}
---: use Rattle.failure_encode.proofs.SizeLaws.{failure_sized}
 --: * = search (writer_laws, failure_sized, rules) fits 5000
 use Rattle.wire.proofs.Answers.{writer_laws}
 use Rattle.failure_encode.proofs.SizeLaws.{failure_sized}

@@ -1,5 +1,4 @@
 -- `frames::admit` meets its contract. Assumes nothing.
---: use Rattle.frames.proofs.CallLaws.{admit_laws}
 --: * = search (admit_laws, rules) fits 5000
 use Rattle.frames.proofs.CallLaws.{admit_laws}
 use Rattle.std.proofs.Common.{rules}

@@ -1,5 +1,4 @@
 -- `frames::collect` meets its contract. Assumes nothing.
---: use Rattle.frames.proofs.CallLaws.{collect_laws}
 --: * = search (collect_laws, rules) fits 5000
 use Rattle.frames.proofs.CallLaws.{collect_laws}
 use Rattle.std.proofs.Common.{rules}

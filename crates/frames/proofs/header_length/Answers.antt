@@ -1,5 +1,4 @@
 -- `frames::header_length` meets its contract. Assumes nothing.
---: use Rattle.frames.proofs.CallLaws.{header_laws}
 --: * = search (header_laws, rules) fits 5000
 use Rattle.frames.proofs.CallLaws.{header_laws}
 use Rattle.std.proofs.Common.{rules}

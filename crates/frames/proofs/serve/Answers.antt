@@ -1,5 +1,4 @@
 -- `frames::serve` meets its contract. Assumes nothing.
---: use Rattle.frames.proofs.CallLaws.{room_laws}
 --: * = search (room_laws, rules) fits 5000
 use Rattle.frames.proofs.CallLaws.{room_laws}
 use Rattle.std.proofs.Common.{rules}

@@ -1,5 +1,4 @@
 -- `frames::step` meets its contract. Assumes nothing.
---: use Rattle.frames.proofs.CallLaws.{step_laws}
 --: * = search (step_laws, rules) fits 5000
 use Rattle.frames.proofs.CallLaws.{step_laws}
 use Rattle.std.proofs.Common.{rules}

@@ -1,5 +1,4 @@
 -- `hex_digits::hex_digit` meets its contract. Assumes nothing.
---: use Rattle.hex_digits.proofs.HexLaws.{digit_laws}
 --: * = search (digit_laws, rules) fits 5000
 use Rattle.hex_digits.proofs.HexLaws.{digit_laws}
 use Rattle.std.proofs.Common.{rules}

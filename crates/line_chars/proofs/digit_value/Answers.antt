@@ -1,5 +1,4 @@
 -- `line_chars::digit_value` meets its contract. Assumes nothing.
---: use Rattle.lines.proofs.LineLaws.{value_laws}
 --: * = search (value_laws, rules) fits 5000
 use Rattle.lines.proofs.LineLaws.{value_laws}
 use Rattle.std.proofs.Common.{rules}

@@ -1,5 +1,4 @@
 -- `line_chars::take_digit` meets its contract. Assumes nothing.
---: use Rattle.lines.proofs.LineLaws.{take_laws}
 --: * = search (take_laws, rules) fits 5000
 use Rattle.lines.proofs.LineLaws.{take_laws}
 use Rattle.std.proofs.Common.{rules}

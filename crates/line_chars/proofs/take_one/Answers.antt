@@ -1,5 +1,4 @@
 -- `line_chars::take_one` meets its contract. Assumes nothing.
---: use Rattle.lines.proofs.LineLaws.{char_laws}
 --: * = search (char_laws, rules) fits 5000
 use Rattle.lines.proofs.LineLaws.{char_laws}
 use Rattle.std.proofs.Common.{rules}

@@ -1,5 +1,4 @@
 -- `lines::case_of` meets its contract. Assumes nothing.
---: use Rattle.lines.proofs.LineLaws.{case_laws}
 --: * = search (case_laws, rules) fits 5000
 use Rattle.lines.proofs.LineLaws.{case_laws}
 use Rattle.std.proofs.Common.{rules}

@@ -1,6 +1,4 @@
 -- `message_encode::put_message` meets its contract. Assumes nothing.
---: use Rattle.route.proofs.RouteLaws.{put_laws}
---: use Rattle.message_encode.proofs.WriteLaws.{message_put}
 --: * = search (put_laws, message_put, rules) fits 5000
 use Rattle.route.proofs.RouteLaws.{put_laws}
 use Rattle.message_encode.proofs.WriteLaws.{message_put}

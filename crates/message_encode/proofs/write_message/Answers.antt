@@ -1,6 +1,4 @@
 -- `message_encode::write_message` meets its contract. Assumes nothing.
---: use Rattle.wire.proofs.Answers.{writer_laws}
---: use Rattle.request_sizes.proofs.SizeLaws.{ready_laws, length_laws}
 --: * = search (writer_laws, ready_laws, length_laws, rules) fits 5000
 use Rattle.wire.proofs.Answers.{writer_laws}
 use Rattle.request_sizes.proofs.SizeLaws.{ready_laws, length_laws}

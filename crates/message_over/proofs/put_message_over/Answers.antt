@@ -1,5 +1,4 @@
 -- `message_over::put_message_over` meets its contract. Assumes nothing.
---: use Rattle.connection_words.proofs.MessageStores.{message_around}
 --: * = search (message_around, rules) fits 5000
 use Rattle.connection_words.proofs.MessageStores.{message_around}
 use Rattle.std.proofs.Common.{rules}

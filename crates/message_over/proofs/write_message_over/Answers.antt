@@ -1,6 +1,4 @@
 -- `message_over::write_message_over` meets its contract. Assumes nothing.
---: use Rattle.wire.proofs.Answers.{writer_laws}
---: use Rattle.message_over.proofs.OverLaws.{over_laws}
 --: * = search (writer_laws, over_laws, rules) fits 5000
 use Rattle.wire.proofs.Answers.{writer_laws}
 use Rattle.message_over.proofs.OverLaws.{over_laws}

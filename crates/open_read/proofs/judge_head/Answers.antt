@@ -1,5 +1,4 @@
 -- `open_read::judge_head` meets its contract. Assumes nothing.
---: use Rattle.open_read.proofs.ReadLaws.{field_laws}
 --: * = search (field_laws, rules) fits 5000
 use Rattle.open_read.proofs.ReadLaws.{field_laws}
 use Rattle.std.proofs.Common.{rules}

@@ -1,5 +1,4 @@
 -- `open_read::open_end` meets its contract. Assumes nothing.
---: use Rattle.open_read.proofs.ReadLaws.{open_laws}
 --: * = search (open_laws, rules) fits 5000
 use Rattle.open_read.proofs.ReadLaws.{open_laws}
 use Rattle.std.proofs.Common.{rules}

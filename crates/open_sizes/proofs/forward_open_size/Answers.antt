@@ -1,5 +1,4 @@
 -- `open_sizes::forward_open_size` meets its contract. Assumes nothing.
---: use Rattle.open_sizes.proofs.SizeLaws.{size_laws}
 --: * = search (size_laws, rules) fits 5000
 use Rattle.open_sizes.proofs.SizeLaws.{size_laws}
 use Rattle.std.proofs.Common.{rules}

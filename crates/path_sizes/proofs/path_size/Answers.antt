@@ -1,8 +1,4 @@
 -- `path_sizes::path_size` meets its contract. Assumes nothing.
---: use Prim.Native.Nat.{◌-◌}
---: use Rattle.epath_sizes.proofs.PathLaws.{Summing, summing_laws}
---: invariant-loop = Summing l.pool l.p l.total l.i
---: decreases-loop = l.count - l.i
 --: * = search (summing_laws, rules) fits 5000
 use Rattle.epath_sizes.proofs.PathLaws.{summing_laws}
 use Rattle.std.proofs.Common.{rules}

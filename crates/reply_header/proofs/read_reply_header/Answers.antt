@@ -1,5 +1,4 @@
 -- `reply_header::read_reply_header` meets its contract. Assumes nothing.
---: use Rattle.reply_header.proofs.HeaderLaws.{header_laws}
 --: * = search (header_laws, rules) fits 5000
 use Rattle.reply_header.proofs.HeaderLaws.{header_laws}
 use Rattle.std.proofs.Common.{rules}

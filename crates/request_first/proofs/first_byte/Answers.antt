@@ -1,5 +1,4 @@
 -- `request_first::first_byte` meets its contract. Assumes nothing.
---: use Rattle.request_first.proofs.FirstLaws.{first_laws}
 --: * = search (first_laws, rules) fits 5000
 use Rattle.request_first.proofs.FirstLaws.{first_laws}
 use Rattle.std.proofs.Common.{rules}

@@ -1,5 +1,4 @@
 -- `route::route_size` meets its contract. Assumes nothing.
---: use Rattle.route.proofs.RouteLaws.{route_laws}
 --: * = search (route_laws, rules) fits 5000
 use Rattle.route.proofs.RouteLaws.{route_laws}
 use Rattle.std.proofs.Common.{rules}

@@ -1,5 +1,4 @@
 -- `route_written::written_record` meets its contract. Assumes nothing.
---: use Rattle.route_written.proofs.RecordLaws.{record_laws}
 --: * = search (record_laws, rules) fits 5000
 use Rattle.route_written.proofs.RecordLaws.{record_laws}
 use Rattle.std.proofs.Common.{rules}

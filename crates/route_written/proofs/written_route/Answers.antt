@@ -1,5 +1,4 @@
 -- `route_written::written_route` meets its contract. Assumes nothing.
---: use Rattle.route_written.proofs.WrittenLaws.{written_laws}
 --: * = search (written_laws, rules) fits 5000
 use Rattle.route_written.proofs.WrittenLaws.{written_laws}
 use Rattle.std.proofs.Common.{rules}

@@ -1,6 +1,4 @@
 -- `send_encode::put_send` meets its contract. Assumes nothing.
---: use Rattle.route.proofs.RouteLaws.{put_laws}
---: use Rattle.send_encode.proofs.WriteLaws.{send_put}
 --: * = search (put_laws, send_put, rules) fits 5000
 use Rattle.route.proofs.RouteLaws.{put_laws}
 use Rattle.send_encode.proofs.WriteLaws.{send_put}

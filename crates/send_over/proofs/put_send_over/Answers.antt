@@ -1,5 +1,4 @@
 -- `send_over::put_send_over` meets its contract. Assumes nothing.
---: use Rattle.send_fields.proofs.Laws.{send_around}
 --: * = search (send_around, rules) fits 5000
 use Rattle.send_fields.proofs.Laws.{send_around}
 use Rattle.std.proofs.Common.{rules}

@@ -1,5 +1,4 @@
 -- `send_read::pad_at` meets its contract. Assumes nothing.
---: use Rattle.send_read.proofs.ReadLaws.{send_laws}
 --: * = search (send_laws, rules) fits 5000
 use Rattle.send_read.proofs.ReadLaws.{send_laws}
 use Rattle.std.proofs.Common.{rules}

@@ -1,5 +1,4 @@
 -- `wire_read::u32_at` meets its contract. Assumes nothing.
---: use Rattle.wire.proofs.Numbers.{number_laws}
 --: * = search (number_laws, rules) fits 5000
 use Rattle.wire.proofs.Numbers.{number_laws}
 use Rattle.std.proofs.Common.{rules}

@@ -1,9 +1,4 @@
 -- `wire_write::copy` meets its contract. Assumes nothing.
---: use Rattle.wire.proofs.Stores.{Copying, copy_laws}
---: use Prim.Native.Nat.{◌-◌}
---: invariant-loop = Copying l.initial.out l.at l.src l.n l.out l.i
---: decreases-loop = l.n - l.i
---: * = search (copy_laws, rules) fits 5000
 use Rattle.wire.proofs.Stores.{Copying}
 use Prim.Native.Nat.{◌-◌}
 use Rattle.wire_write.proofs.copy.Given as goal
@@ -11,6 +6,5 @@ use Rattle.wire_write.proofs.copy.Given as goal
 abbrev pub invariant-loop-i : goal.invariant-loop-i
 invariant-loop-i l = Copying l.initial.out l.at l.src l.n l.out l.i
 
--- proposed from the loop's first test
 abbrev pub decreases-loop-i : goal.decreases-loop-i
 decreases-loop-i l = l.n - l.i

@@ -1,5 +1,4 @@
 -- `wire_write::put_bytes` meets its contract. Assumes nothing.
---: use Rattle.wire.proofs.Stores.{run_laws}
 --: * = search (run_laws, rules) fits 5000
 use Rattle.wire.proofs.Stores.{run_laws}
 use Rattle.std.proofs.Common.{rules}

@@ -1,5 +1,4 @@
 -- `c_paths::write::put_row` meets its contract. Assumes nothing.
---: use Rattle.c_paths.proofs.PathLaws.{ready_laws}
 --: * = search (ready_laws, rules) fits 5000
 use Rattle.c_paths.proofs.PathLaws.{ready_laws}
 use Rattle.std.proofs.Common.{rules}

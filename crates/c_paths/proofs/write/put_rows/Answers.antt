@@ -1,8 +1,4 @@
 -- `c_paths::write::put_rows` meets its contract. Assumes nothing.
---: use Prim.Native.Nat.{◌-◌}
---: use Rattle.c_paths.proofs.PathLaws.{Filing, filing_laws}
---: invariant-loop = Filing l.pool l.segments l.initial.out l.out l.at l.i
---: decreases-loop = l.count - l.i
 --: * = search (filing_laws, rules) fits 5000
 use Rattle.c_paths.proofs.PathLaws.{filing_laws}
 use Rattle.std.proofs.Common.{rules}

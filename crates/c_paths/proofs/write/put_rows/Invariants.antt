@@ -1,9 +1,4 @@
 -- `c_paths::write::put_rows` meets its contract. Assumes nothing.
---: use Prim.Native.Nat.{◌-◌}
---: use Rattle.c_paths.proofs.PathLaws.{Filing, filing_laws}
---: invariant-loop = Filing l.pool l.segments l.initial.out l.out l.at l.i
---: decreases-loop = l.count - l.i
---: * = search (filing_laws, rules) fits 5000
 use Prim.Native.Nat.{◌-◌}
 use Rattle.c_paths.proofs.PathLaws.{Filing}
 use Rattle.c_paths.proofs.write.put_rows.Given as goal
@@ -11,6 +6,5 @@ use Rattle.c_paths.proofs.write.put_rows.Given as goal
 abbrev pub invariant-loop-i : goal.invariant-loop-i
 invariant-loop-i l = Filing l.pool l.segments l.initial.out l.out l.at l.i
 
--- proposed from the loop's first test
 abbrev pub decreases-loop-i : goal.decreases-loop-i
 decreases-loop-i l = l.count - l.i

@@ -1,5 +1,4 @@
 -- `c_paths::write::row_size` meets its contract. Assumes nothing.
---: use Rattle.c_paths.proofs.RowLaws.{row_laws}
 --: * = search (row_laws, rules) fits 5000
 use Rattle.c_paths.proofs.RowLaws.{row_laws}
 use Rattle.std.proofs.Common.{rules}

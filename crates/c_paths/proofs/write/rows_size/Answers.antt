@@ -1,8 +1,4 @@
 -- `c_paths::write::rows_size` meets its contract. Assumes nothing.
---: use Prim.Native.Nat.{◌-◌}
---: use Rattle.c_paths.proofs.PathLaws.{Summing, summing_laws}
---: invariant-loop = Summing l.pool l.segments l.total l.i
---: decreases-loop = l.count - l.i
 --: * = search (summing_laws, rules) fits 5000
 use Rattle.c_paths.proofs.PathLaws.{summing_laws}
 use Rattle.std.proofs.Common.{rules}

@@ -1,9 +1,4 @@
 -- `c_paths::write::rows_size` meets its contract. Assumes nothing.
---: use Prim.Native.Nat.{◌-◌}
---: use Rattle.c_paths.proofs.PathLaws.{Summing, summing_laws}
---: invariant-loop = Summing l.pool l.segments l.total l.i
---: decreases-loop = l.count - l.i
---: * = search (summing_laws, rules) fits 5000
 use Prim.Native.Nat.{◌-◌}
 use Rattle.c_paths.proofs.PathLaws.{Summing}
 use Rattle.c_paths.proofs.write.rows_size.Given as goal
@@ -11,6 +6,5 @@ use Rattle.c_paths.proofs.write.rows_size.Given as goal
 abbrev pub invariant-loop-i : goal.invariant-loop-i
 invariant-loop-i l = Summing l.pool l.segments l.total l.i
 
--- proposed from the loop's first test
 abbrev pub decreases-loop-i : goal.decreases-loop-i
 decreases-loop-i l = l.count - l.i

@@ -1,5 +1,4 @@
 -- `c_paths::write::segment_of` meets its contract. Assumes nothing.
---: use Rattle.c_paths.proofs.RowLaws.{kind_laws}
 --: * = search (kind_laws, rules) fits 5000
 use Rattle.c_paths.proofs.RowLaws.{kind_laws}
 use Rattle.std.proofs.Common.{rules}

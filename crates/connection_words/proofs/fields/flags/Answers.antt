@@ -1,5 +1,4 @@
 -- `connection_words::fields::flags` meets its contract. Assumes nothing.
---: use Rattle.connection_words.proofs.FieldLaws.{field_laws}
 --: * = search (field_laws, rules) fits 5000
 use Rattle.connection_words.proofs.FieldLaws.{field_laws}
 use Rattle.std.proofs.Common.{rules}

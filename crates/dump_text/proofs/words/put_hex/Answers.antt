@@ -1,5 +1,4 @@
 -- `dump_text::words::put_hex` meets its contract. Assumes nothing.
---: use Rattle.dump_text.proofs.WordLaws.{hex_placed}
 --: * = search (hex_placed, rules) fits 5000
 use Rattle.dump_text.proofs.WordLaws.{hex_placed}
 use Rattle.std.proofs.Common.{rules}

@@ -1,5 +1,4 @@
 -- `dump_text::words::put_word` meets its contract. Assumes nothing.
---: use Rattle.dump_text.proofs.WordLaws.{word_laws}
 --: * = search (word_laws, rules) fits 5000
 use Rattle.dump_text.proofs.WordLaws.{word_laws}
 use Rattle.std.proofs.Common.{rules}

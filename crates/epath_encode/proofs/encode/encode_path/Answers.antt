@@ -1,11 +1,4 @@
 -- `epath_encode::encode::encode_path` meets its contract. Assumes nothing.
---: use Prim.Native.Nat.{◌-◌}
---: use mathlib.Core.Path.{◌≡◌}
---: use lib.ListN.{length, length-map}
---: use Rattle.epath_sizes.specs.Limits.{max_segments}
---: use Rattle.epath_encode.proofs.FileLaws.{Filing, filing_laws}
---: invariant-loop = Filing l.pool l.p l.initial.out l.out l.at l.k
---: decreases-loop = l.count - l.k
 --: * = search (filing_laws, rules) fits 5000
 use Rattle.epath_encode.proofs.FileLaws.{filing_laws}
 use Rattle.std.proofs.Common.{rules}

@@ -1,5 +1,4 @@
 -- `epath_encode::encode::encode_port` meets its contract. Assumes nothing.
---: use Rattle.epath_encode.proofs.WriteLaws.{end_laws}
 --: * = search (end_laws, rules) fits 5000
 use Rattle.epath_encode.proofs.WriteLaws.{end_laws}
 use Rattle.std.proofs.Common.{rules}

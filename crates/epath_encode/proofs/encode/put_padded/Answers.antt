@@ -1,5 +1,4 @@
 -- `epath_encode::encode::put_padded` meets its contract. Assumes nothing.
---: use Rattle.epath_encode.proofs.WriteLaws.{pad_laws}
 --: * = search (pad_laws, rules) fits 5000
 use Rattle.epath_encode.proofs.WriteLaws.{pad_laws}
 use Rattle.std.proofs.Common.{rules}

@@ -1,8 +1,4 @@
 -- `epath_encode::encode::put_run` meets its contract. Assumes nothing.
---: use Rattle.wire.proofs.Stores.{Copying, copy_laws, run_whole}
---: use Prim.Native.Nat.{◌-◌}
---: invariant-loop = Copying l.initial.out l.at l.src l.n l.out l.i
---: decreases-loop = l.n - l.i
 --: * = search (copy_laws, run_whole, rules) fits 5000
 use Rattle.wire.proofs.Stores.{copy_laws, run_whole}
 use Rattle.std.proofs.Common.{rules}

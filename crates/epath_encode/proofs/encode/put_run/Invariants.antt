@@ -1,9 +1,4 @@
 -- `epath_encode::encode::put_run` meets its contract. Assumes nothing.
---: use Rattle.wire.proofs.Stores.{Copying, copy_laws, run_whole}
---: use Prim.Native.Nat.{◌-◌}
---: invariant-loop = Copying l.initial.out l.at l.src l.n l.out l.i
---: decreases-loop = l.n - l.i
---: * = search (copy_laws, run_whole, rules) fits 5000
 use Rattle.wire.proofs.Stores.{Copying}
 use Prim.Native.Nat.{◌-◌}
 use Rattle.epath_encode.proofs.encode.put_run.Given as goal
@@ -11,6 +6,5 @@ use Rattle.epath_encode.proofs.encode.put_run.Given as goal
 abbrev pub invariant-loop-i : goal.invariant-loop-i
 invariant-loop-i l = Copying l.initial.out l.at l.src l.n l.out l.i
 
--- proposed from the loop's first test
 abbrev pub decreases-loop-i : goal.decreases-loop-i
 decreases-loop-i l = l.n - l.i

@@ -1,6 +1,4 @@
 -- `epath_encode::encode::write_path` meets its contract. Assumes nothing.
---: use Rattle.wire.proofs.Answers.{writer_laws}
---: use Rattle.epath_sizes.proofs.PathLaws.{path_laws}
 --: * = search (writer_laws, path_laws, rules) fits 5000
 use Rattle.wire.proofs.Answers.{writer_laws}
 use Rattle.epath_sizes.proofs.PathLaws.{path_laws}

@@ -1,6 +1,4 @@
 -- `epath_encode::encode::write_segment` meets its contract. Assumes nothing.
---: use Rattle.wire.proofs.Answers.{writer_laws}
---: use Rattle.epath_encode.proofs.WriteLaws.{sized_laws}
 --: * = search (writer_laws, sized_laws, rules) fits 5000
 use Rattle.wire.proofs.Answers.{writer_laws}
 use Rattle.epath_encode.proofs.WriteLaws.{sized_laws}

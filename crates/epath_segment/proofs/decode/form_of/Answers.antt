@@ -1,5 +1,4 @@
 -- `epath_segment::decode::form_of` meets its contract. Assumes nothing.
---: use Rattle.epath_segment.proofs.ReadLaws.{form_laws}
 --: * = search (form_laws, rules) fits 5000
 use Rattle.epath_segment.proofs.ReadLaws.{form_laws}
 use Rattle.std.proofs.Common.{rules}

@@ -1,5 +1,4 @@
 -- `epath_segment::decode::read_part` meets its contract. Assumes nothing.
---: use Rattle.epath_segment.proofs.ReadLaws.{part_laws}
 --: * = search (part_laws, rules) fits 5000
 use Rattle.epath_segment.proofs.ReadLaws.{part_laws}
 use Rattle.std.proofs.Common.{rules}

@@ -1,5 +1,4 @@
 -- `epath_segment::decode::read_port` meets its contract. Assumes nothing.
---: use Rattle.epath_segment.proofs.ReadLaws.{port_laws}
 --: * = search (port_laws, rules) fits 5000
 use Rattle.epath_segment.proofs.ReadLaws.{port_laws}
 use Rattle.std.proofs.Common.{rules}

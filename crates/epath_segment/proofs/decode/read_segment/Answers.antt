@@ -1,5 +1,4 @@
 -- `epath_segment::decode::read_segment` meets its contract. Assumes nothing.
---: use Rattle.epath_segment.proofs.ReadLaws.{front_laws}
 --: * = search (front_laws, rules) fits 5000
 use Rattle.epath_segment.proofs.ReadLaws.{front_laws}
 use Rattle.std.proofs.Common.{rules}

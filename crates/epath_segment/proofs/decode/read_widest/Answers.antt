@@ -1,5 +1,4 @@
 -- `epath_segment::decode::read_widest` meets its contract. Assumes nothing.
---: use Rattle.epath_segment.proofs.ReadLaws.{number_laws}
 --: * = search (number_laws, rules) fits 5000
 use Rattle.epath_segment.proofs.ReadLaws.{number_laws}
 use Rattle.std.proofs.Common.{rules}

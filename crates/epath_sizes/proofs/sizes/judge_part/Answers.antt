@@ -1,5 +1,4 @@
 -- `epath_sizes::sizes::judge_part` meets its contract. Assumes nothing.
---: use Rattle.wire.proofs.Rules.{rules}
 --: * = search rules fits 5000
 use Rattle.wire.proofs.Rules.{rules}
 use Rattle.epath_sizes.proofs.sizes.judge_part.Goals as goal

@@ -1,5 +1,4 @@
 -- `epath_sizes::sizes::port_size` meets its contract. Assumes nothing.
---: use Rattle.epath_sizes.proofs.SizeLaws.{part_laws}
 --: * = search (part_laws, rules) fits 5000
 use Rattle.epath_sizes.proofs.SizeLaws.{part_laws}
 use Rattle.std.proofs.Common.{rules}

@@ -1,5 +1,4 @@
 -- `epath_sizes::sizes::segment_size` meets its contract. Assumes nothing.
---: use Rattle.epath_sizes.proofs.SizeLaws.{segment_laws}
 --: * = search (segment_laws, rules) fits 5000
 use Rattle.epath_sizes.proofs.SizeLaws.{segment_laws}
 use Rattle.std.proofs.Common.{rules}

@@ -1,5 +1,4 @@
 -- `message_read::message::read_message` meets its contract. Assumes nothing.
---: use Rattle.message_read.proofs.ReadLaws.{message_laws}
 --: * = search (message_laws, rules) fits 5000
 use Rattle.message_read.proofs.ReadLaws.{message_laws}
 use Rattle.std.proofs.Common.{rules}

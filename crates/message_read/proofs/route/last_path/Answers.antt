@@ -1,5 +1,4 @@
 -- `message_read::route::last_path` meets its contract. Assumes nothing.
---: use Rattle.message_read.proofs.ReadLaws.{path_laws}
 --: * = search (path_laws, rules) fits 5000
 use Rattle.message_read.proofs.ReadLaws.{path_laws}
 use Rattle.std.proofs.Common.{rules}

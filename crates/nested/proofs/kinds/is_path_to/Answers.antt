@@ -1,5 +1,4 @@
 -- `nested::kinds::is_path_to` meets its contract. Assumes nothing.
---: use Rattle.nested.proofs.KindLaws.{path_laws}
 --: * = search (path_laws, rules) fits 5000
 use Rattle.nested.proofs.KindLaws.{path_laws}
 use Rattle.std.proofs.Common.{rules}

@@ -1,5 +1,4 @@
 -- `nested::kinds::kind_of` meets its contract. Assumes nothing.
---: use Rattle.nested.proofs.KindLaws.{kind_laws}
 --: * = search (kind_laws, rules) fits 5000
 use Rattle.nested.proofs.KindLaws.{kind_laws}
 use Rattle.std.proofs.Common.{rules}

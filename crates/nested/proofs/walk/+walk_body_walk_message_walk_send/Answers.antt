@@ -1,11 +1,4 @@
 -- `nested::walk::+walk_body_walk_message_walk_send` meets its contract. Assumes nothing.
---: use Prim.Native.Nat.{◌+◌, ◌*◌}
---: use Rattle.nested.proofs.WalkLaws.{message_laws, send_laws, body_laws, Turn, turn_goes}
---: decreases-walk_body = 2 * l.left + 1
---: decreases-walk_message = 2 * l.left
---: decreases-walk_send = 2 * l.left + 1
---: invariant-walk_body-loop-rest = Turn l.s l.left l.n l.rest l.at l.next l.initial.rows l.rows
---: decreases-walk_body-loop-rest = l.rest
 --: * = search (message_laws, send_laws, body_laws, rules) fits 5000
 use Rattle.nested.proofs.WalkLaws.{message_laws, send_laws, body_laws}
 use Rattle.std.proofs.Common.{rules}

@@ -1,5 +1,4 @@
 -- `nested::walk::item_of` meets its contract. Assumes nothing.
---: use Rattle.nested.proofs.WalkLaws.{item_laws}
 --: * = search (item_laws, rules) fits 5000
 use Rattle.nested.proofs.WalkLaws.{item_laws}
 use Rattle.std.proofs.Common.{rules}

@@ -1,5 +1,4 @@
 -- `nested::walk::read_nested` meets its contract. Assumes nothing.
---: use Rattle.nested.proofs.WalkLaws.{nested_laws}
 --: * = search (nested_laws, rules) fits 5000
 use Rattle.nested.proofs.WalkLaws.{nested_laws}
 use Rattle.std.proofs.Common.{rules}

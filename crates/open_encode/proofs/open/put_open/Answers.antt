@@ -1,6 +1,4 @@
 -- `open_encode::open::put_open` meets its contract. Assumes nothing.
---: use Rattle.route.proofs.RouteLaws.{put_laws}
---: use Rattle.open_encode.proofs.WriteLaws.{open_laws}
 --: * = search (put_laws, open_laws, rules) fits 5000
 use Rattle.route.proofs.RouteLaws.{put_laws}
 use Rattle.open_encode.proofs.WriteLaws.{open_laws}

@@ -1,5 +1,4 @@
 -- `open_encode::open::put_parameters` meets its contract. Assumes nothing.
---: use Rattle.open_encode.proofs.WriteLaws.{open_laws}
 --: * = search (open_laws, rules) fits 5000
 use Rattle.open_encode.proofs.WriteLaws.{open_laws}
 use Rattle.std.proofs.Common.{rules}

@@ -1,6 +1,4 @@
 -- `open_encode::open::write_forward_open` meets its contract. Assumes nothing.
---: use Rattle.wire.proofs.Answers.{writer_laws}
---: use Rattle.open_sizes.proofs.SizeLaws.{ready_laws, length_laws}
 --: * = search (writer_laws, ready_laws, length_laws, rules) fits 5000
 use Rattle.wire.proofs.Answers.{writer_laws}
 use Rattle.open_sizes.proofs.SizeLaws.{ready_laws, length_laws}

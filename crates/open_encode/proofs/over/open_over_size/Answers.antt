@@ -1,5 +1,4 @@
 -- `open_encode::over::open_over_size` meets its contract. Assumes nothing.
---: use Rattle.open_encode.proofs.OverLaws.{over_laws}
 --: * = search (over_laws, rules) fits 5000
 use Rattle.open_encode.proofs.OverLaws.{over_laws}
 use Rattle.std.proofs.Common.{rules}

@@ -1,5 +1,4 @@
 -- `open_encode::over::put_open_over` meets its contract. Assumes nothing.
---: use Rattle.open_encode.proofs.WriteLaws.{open_laid}
 --: * = search (open_laid, rules) fits 5000
 use Rattle.open_encode.proofs.WriteLaws.{open_laid}
 use Rattle.std.proofs.Common.{rules}

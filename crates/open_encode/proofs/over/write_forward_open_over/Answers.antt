@@ -1,6 +1,4 @@
 -- `open_encode::over::write_forward_open_over` meets its contract. Assumes nothing.
---: use Rattle.wire.proofs.Answers.{writer_laws}
---: use Rattle.open_encode.proofs.OverLaws.{judged_laws}
 --: * = search (writer_laws, judged_laws, rules) fits 5000
 use Rattle.wire.proofs.Answers.{writer_laws}
 use Rattle.open_encode.proofs.OverLaws.{judged_laws}

@@ -1,5 +1,4 @@
 -- `reply_read::close::read_forward_close_reply` meets its contract. Assumes nothing.
---: use Rattle.reply_read.proofs.ReadLaws.{reply_laws}
 --: * = search (reply_laws, rules) fits 5000
 use Rattle.reply_read.proofs.ReadLaws.{reply_laws}
 use Rattle.std.proofs.Common.{rules}

@@ -1,5 +1,4 @@
 -- `reply_read::record::app_data` meets its contract. Assumes nothing.
---: use Rattle.reply_read.proofs.ReadLaws.{field_laws}
 --: * = search (field_laws, rules) fits 5000
 use Rattle.reply_read.proofs.ReadLaws.{field_laws}
 use Rattle.std.proofs.Common.{rules}

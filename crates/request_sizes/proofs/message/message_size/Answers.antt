@@ -1,5 +1,4 @@
 -- `request_sizes::message::message_size` meets its contract. Assumes nothing.
---: use Rattle.request_sizes.proofs.SizeLaws.{size_laws}
 --: * = search (size_laws, rules) fits 5000
 use Rattle.request_sizes.proofs.SizeLaws.{size_laws}
 use Rattle.std.proofs.Common.{rules}

@@ -1,5 +1,4 @@
 -- `request_sizes::record::record_size` meets its contract. Assumes nothing.
---: use Rattle.request_sizes.proofs.SizeLaws.{record_laws}
 --: * = search (record_laws, rules) fits 5000
 use Rattle.request_sizes.proofs.SizeLaws.{record_laws}
 use Rattle.std.proofs.Common.{rules}

@@ -1,5 +1,4 @@
 -- `success_encode::open::put_open_fields` meets its contract. Assumes nothing.
---: use Rattle.success_encode.proofs.WriteLaws.{success_laws}
 --: * = search (success_laws, rules) fits 5000
 use Rattle.success_encode.proofs.WriteLaws.{success_laws}
 use Rattle.std.proofs.Common.{rules}

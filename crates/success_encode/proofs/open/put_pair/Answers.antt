@@ -1,5 +1,4 @@
 -- `success_encode::open::put_pair` meets its contract. Assumes nothing.
---: use Rattle.success_encode.proofs.WriteLaws.{pair_put}
 --: * = search (pair_put, rules) fits 5000
 use Rattle.success_encode.proofs.WriteLaws.{pair_put}
 use Rattle.std.proofs.Common.{rules}

@@ -1,7 +1,4 @@
 -- `success_encode::open::write_forward_open_success` meets its contract. Assumes nothing.
---: use Rattle.wire.proofs.Answers.{writer_laws}
---: use Rattle.success_encode.proofs.SizeLaws.{sized_laws}
---: use Rattle.success_encode.proofs.WriteLaws.{success_laws}
 --: * = search (writer_laws, sized_laws, success_laws, rules) fits 5000
 use Rattle.wire.proofs.Answers.{writer_laws}
 use Rattle.success_encode.proofs.SizeLaws.{sized_laws}

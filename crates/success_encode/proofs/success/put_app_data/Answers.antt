@@ -1,5 +1,4 @@
 -- `success_encode::success::put_app_data` meets its contract. Assumes nothing.
---: use Rattle.success_encode.proofs.WriteLaws.{app_put}
 --: * = search (app_put, rules) fits 5000
 use Rattle.success_encode.proofs.WriteLaws.{app_put}
 use Rattle.std.proofs.Common.{rules}

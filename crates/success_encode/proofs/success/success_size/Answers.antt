@@ -1,5 +1,4 @@
 -- `success_encode::success::success_size` meets its contract. Assumes nothing.
---: use Rattle.success_encode.proofs.SizeLaws.{app_laws}
 --: * = search (app_laws, rules) fits 5000
 use Rattle.success_encode.proofs.SizeLaws.{app_laws}
 use Rattle.std.proofs.Common.{rules}
