@@ -23,12 +23,13 @@ landed = sys.argv[1]
 root = pathlib.Path(".")
 TOKEN = r"(?<![\w'◌-])[\w'-]+(?![\w'◌-])"
 HEAD = r"\s*(?:pub |private |unfoldable |abbrev )*"
-# Two names that would fall together, neither of them a lemma beside a definition: the one that is turned otherwise.
+# Names that would fall together, with a definition or with a field: what they are turned into.
 APART = {
     "same_answer": "same_answer_lem",
     "no_digit": "no_digit_lem",
     "bytes_after": "bytes_after_lem",
     "after_first": "after_first_lem",
+    "dataStart": "data_from",
 }
 # What port.py turns of the names of this repository: a name before, a name behind.
 PORTED = """
@@ -72,7 +73,7 @@ def snake(name):
 
 def declared(text):
     for line in text.split("\n"):
-        m = re.match(HEAD + r"(?:ruleset |data |record )?(?!use\b|where\b|module\b|let\b|in\b)([\w'-]+)(?:\s*\{[^}]*\})?(?: [({].*?)?\s*[:=]", line)
+        m = re.match(HEAD + r"(?:ruleset |data |record )?(?!(?:use|where|module|let|in)(?![\w'-]))([\w'-]+)(?:\s*\{[^}]*\})?(?: [({].*?)?\s*[:=]", line)
         if m:
             yield m[1]
         m = re.match(HEAD + r"(?:pub )?([\w'-]+(?: [\w'-]+)+) :", line)
@@ -124,7 +125,8 @@ def outside_strings(text):
 
 # ---- sources
 for p in sources:
-    p.write_text(turn(p.read_text()))
+    # the record of all claims has a field of each function's name, and no definition beside them
+    p.write_text(turn(p.read_text(), {n: snake(n) for n in names} if p.parts[1] == "claims" else names))
 for p in sorted(root.glob("crates/*/src/**/*.rt")):
     p.write_text(outside_strings(p.read_text()))
 

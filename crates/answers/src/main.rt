@@ -116,7 +116,13 @@ fn run(
     let mut input = rt.stdin();
     let mut line = lines::blank_line();
     for _ in 0..u64::MAX {
-        let n = input.read(chunk)?;
+        let n = match input.read(chunk) {
+            Ok(n) => n,
+            Err(e) => {
+                finish(line, case, reply, text);
+                return Err(e);
+            }
+        };
         if n == 0 {
             finish(line, case, reply, text);
             return Ok(());

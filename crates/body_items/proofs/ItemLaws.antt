@@ -21,7 +21,7 @@ use Rattle.body_read.specs.Reads.{offset_at, read_body}
 use Rattle.body_read.proofs.Accepts.{Accepted, accepted}
 use Rattle.body_items.specs.declared.Item.{Item}
 use Rattle.body_items.specs.declared.ItemRead.{ItemRead}
-use Rattle.body_items.specs.Items.{stop_at, item_at, bytes_in, body_item, walk_rules, walk_item, paper_item}
+use Rattle.body_items.specs.Items.{stop_at, item_at, bytes_in, body_item, walk_item, paper_item}
 
 -- ---- where an item starts
 pub offset_read : (s : List ℕ) (k r : ℕ) → r ≡ get_or s (2 + 2 * k) 0 + 256 * get_or s (2 + 2 * k + 1) 0 → r ≡ offset_at s k

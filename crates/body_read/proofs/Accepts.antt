@@ -1,13 +1,13 @@
 -- A body is accepted exactly where document 01's rule holds of it, offset by offset. Assumes nothing.
-use Prim.Native.Nat.{ℕ, zero, suc, ◌+◌, ◌*◌, ◌-◌, ◌≤◌, ◌<◌}
+use Prim.Native.Nat.{ℕ, zero, suc, ◌+◌, ◌*◌, ◌≤◌, ◌<◌}
 use mathlib.Core.Path.{◌≡◌, refl, ap, ◌∙◌}
-use mathlib.Core.List.{List, [], ◌∷◌}
+use mathlib.Core.List.{List}
 use mathlib.Core.Logic.{⊎_elim}
 use native.Mathlib.Omega.{arith}
 use native.Mathlib.Nat.{eq-or-lt_of_le}
 use native.Mathlib.Numerals.{add-one}
 use lib.ListN.{length}
-use Rattle.wire.specs.Answers.{done, under, over, judged, KeepsAll}
+use Rattle.wire.specs.Answers.{done, judged, KeepsAll}
 use Rattle.wire.proofs.Rules.{done_same, all_keep, all_were}
 use Rattle.connection.specs.Limits.{max_record}
 use Rattle.body_sizes.specs.Bodies.{table_end}

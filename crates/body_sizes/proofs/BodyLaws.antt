@@ -1,15 +1,12 @@
 -- Lengths and places in a body. Assumes nothing.
-use Prim.Native.Nat.{ℕ, suc, ◌+◌, ◌*◌, ◌-◌, ◌≤◌}
+use Prim.Native.Nat.{ℕ, suc, ◌+◌, ◌*◌, ◌≤◌}
 use mathlib.Core.Path.{◌≡◌, refl, sym, ap, ◌∙◌}
 use mathlib.Core.List.{List, [], ◌∷◌, ◌++◌, map}
 use native.Mathlib.Omega.{arith}
 use lib.ListN.{length-map, length, take, drop, length-append, length-drop}
 use lib.Seq.{length-take-le, take-add}
 use Rattle.wire.specs.Folds.{joined}
-use Rattle.wire.specs.Answers.{done, over, within_limit}
-use Rattle.wire.proofs.Rules.{all_keep, all_were}
 use Rattle.wire.proofs.Numbers.{low_length}
-use Rattle.connection.specs.Limits.{max_record}
 use Rattle.body_sizes.specs.Bodies.{table_end, starts, two_bytes, flat, body_of, cut, sum_of}
 
 pub length_two : (vs : List ℕ) → length (joined two_bytes vs) ≡ 2 * length vs

@@ -17,7 +17,7 @@ use Rattle.wire.specs.declared.Counted.TheVariants.{Count, Refused as NotCounted
 use Rattle.wire.proofs.Rules.{rules}
 use Rattle.wire.proofs.Answers.{room_kept, room_was}
 use Rattle.wire.proofs.Stores.{Copying, copy_first, copy_more, copy_ends, run_whole, sets_overlay}
-use Rattle.c_answers.specs.Codes.{two_to64, two_to63, code, filled, numbers, run_answer, run_left, run_of, Told}
+use Rattle.c_answers.specs.Codes.{two_to64, two_to63, code, run_answer, run_left, run_of, Told}
 use Rattle.wire.specs.declared.Refusal.{Refusal}
 use Rattle.wire.specs.declared.Refusal.TheVariants.{Short, Room, Limit, Code, Form, Words, Offset, Leftover, Depth, Envelope, Outside}
 

@@ -1,5 +1,5 @@
 -- An answer as one number of 64 bits, for C. Assumes nothing: these are definitions.
-use Rattle.std.specs.Prelude.{ℕ, ◌+◌, ◌-◌, ◌≤◌, ◌<◌, List, [], length}
+use Rattle.std.specs.Prelude.{ℕ, ◌-◌, ◌≤◌, ◌<◌, List, [], length}
 use Rattle.wire.specs.Refusals.{last_number}
 use Rattle.wire.specs.Answers.{Answer, done, refused, and_then, with_room, written}
 

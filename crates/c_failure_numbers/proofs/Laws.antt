@@ -1,6 +1,6 @@
 -- A failure as the code lays it. Assumes nothing.
 use Prim.Native.Nat.{ℕ}
-use mathlib.Core.Path.{◌≡◌, ap, ◌∙◌}
+use mathlib.Core.Path.{◌≡◌}
 use mathlib.Core.List.{List, [], ◌∷◌}
 use lib.ListN.{get_or}
 use Rattle.connection.specs.declared.ForwardRequestFail.{ForwardRequestFail}

@@ -10,7 +10,7 @@ use Rattle.wire.specs.declared.Refusal.{Refusal}
 use Rattle.wire.specs.declared.Wrote.{Wrote}
 use Rattle.wire.specs.declared.Counted.{Counted}
 use Rattle.wire.specs.declared.Counted.TheVariants.{Count, Refused as NotCounted}
-use Rattle.wire.proofs.Rules.{all_keep, all_were, then_stops, then_goes, then_done, Went, then_were}
+use Rattle.wire.proofs.Rules.{all_keep, then_stops, then_goes, then_done, Went, then_were}
 use Rattle.connection.specs.Limits.{size_limit}
 use Rattle.connection.specs.declared.ConnectionParameters.{ConnectionParameters}
 use Rattle.connection.specs.declared.OpenOptions.{OpenOptions}
@@ -18,7 +18,7 @@ use Rattle.connection.specs.declared.Direction.{Direction}
 use Rattle.connection.specs.declared.TriggerType.{TriggerType}
 use Rattle.connection.specs.declared.TransportClass.{TransportClass}
 use Rattle.connection_words.specs.Codes.{direction_of, trigger_of, class_of}
-use Rattle.connection_words.specs.Fields.{unit, word_of, parameter_word, parameters_of, word_rules, read_parameters, paper_parameters, Transport, transport, transport_rules, read_transport, paper_transport}
+use Rattle.connection_words.specs.Fields.{word_of, parameter_word, read_parameters, paper_parameters, Transport, transport, read_transport, paper_transport}
 use Rattle.connection_words.specs.Requests.{open_bytes}
 use Rattle.connection_words.specs.declared.ParametersRead.{ParametersRead}
 use Rattle.connection_words.specs.declared.ParametersRead.TheVariants.{Found as FoundParameters, Refused as NoParameters}

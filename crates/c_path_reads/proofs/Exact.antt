@@ -1,5 +1,4 @@
 -- The public function takes every argument, and its contract leaves one answer and one content of what is lent. Assumes nothing.
-use mathlib.Core.Path.{refl}
 use Rattle.exact.specs.Exact.{Exact, exact, says, same}
 use Rattle.c_path_reads.specs.contracts.bark_read_path
 

@@ -216,31 +216,31 @@ pub record Claims : Type 2 where
   pub put_u32 : Exact put_u32.ended (λ _ _. put_u32.clauses)
   pub put_bytes : Exact put_bytes.ended (λ _ _. put_bytes.clauses)
   -- hex
-  pub hex_digit_lem : Exact hex_digit.ended (λ _ _. hex_digit.clauses)
+  pub hex_digit : Exact hex_digit.ended (λ _ _. hex_digit.clauses)
   -- lines
   pub blank_line : Exact blank_line.ended (λ _ _. blank_line.clauses)
   pub take_char : Exact take_char.ended (λ _ _. take_char.clauses)
   pub line_case : Exact line_case.ended (λ _ _. line_case.clauses)
   -- epath_sizes
-  pub segment_size_lem : Exact segment_size.ended (λ _ _. segment_size.clauses)
-  pub path_size_lem : Exact path_size.ended (λ _ _. path_size.clauses)
+  pub segment_size : Exact segment_size.ended (λ _ _. segment_size.clauses)
+  pub path_size : Exact path_size.ended (λ _ _. path_size.clauses)
   -- epath_encode
   pub write_segment : Exact write_segment.ended (λ _ _. write_segment.clauses)
   pub write_path : Exact write_path.ended (λ _ _. write_path.clauses)
   -- epath_lists
   pub blank_path : Exact blank_path.ended (λ _ _. blank_path.clauses)
   pub default_port : Exact default_port.ended (λ _ _. default_port.clauses)
-  pub is_port_lem : Exact is_port.ended (λ _ _. is_port.clauses)
+  pub is_port : Exact is_port.ended (λ _ _. is_port.clauses)
   -- epath_segment
   pub read_segment : Exact read_segment.ended (λ _ _. read_segment.clauses)
   -- epath_check
-  pub check_path_lem : Exact check_path.ended (λ _ _. check_path.clauses)
+  pub check_path : Exact check_path.ended (λ _ _. check_path.clauses)
   -- epath_read
-  pub read_path_lem : Exact read_path.ended (λ _ _. read_path.clauses)
+  pub read_path : Exact read_path.ended (λ _ _. read_path.clauses)
   -- connection
-  pub default_parameters_lem : Exact default_parameters.ended (λ _ _. default_parameters.clauses)
-  pub default_options_lem : Exact default_options.ended (λ _ _. default_options.clauses)
-  pub priority_tick_time_lem : Exact priority_tick_time.ended (λ _ _. priority_tick_time.clauses)
+  pub default_parameters : Exact default_parameters.ended (λ _ _. default_parameters.clauses)
+  pub default_options : Exact default_options.ended (λ _ _. default_options.clauses)
+  pub priority_tick_time : Exact priority_tick_time.ended (λ _ _. priority_tick_time.clauses)
   -- connection_words
   pub encode_parameters : Exact encode_parameters.ended (λ _ _. encode_parameters.clauses)
   pub decode_parameters : Exact decode_parameters.ended (λ _ _. decode_parameters.clauses)
@@ -250,7 +250,7 @@ pub record Claims : Type 2 where
   -- triads
   pub put_triad : Exact put_triad.ended (λ _ _. put_triad.clauses)
   -- route
-  pub route_size_lem : Exact route_size.ended (λ _ _. route_size.clauses)
+  pub route_size : Exact route_size.ended (λ _ _. route_size.clauses)
   -- default_path
   pub default_connection_path : Exact default_connection_path.ended (λ _ _. default_connection_path.clauses)
   -- open_sizes
@@ -267,7 +267,7 @@ pub record Claims : Type 2 where
   -- close_over
   pub write_forward_close_over : Exact write_forward_close_over.ended (λ _ _. write_forward_close_over.clauses)
   -- request_sizes
-  pub message_size_lem : Exact message_size.ended (λ _ _. message_size.clauses)
+  pub message_size : Exact message_size.ended (λ _ _. message_size.clauses)
   pub unconnected_send_size : Exact unconnected_send_size.ended (λ _ _. unconnected_send_size.clauses)
   -- message_encode
   pub write_message : Exact write_message.ended (λ _ _. write_message.clauses)
@@ -282,9 +282,9 @@ pub record Claims : Type 2 where
   -- request_first
   pub first_byte : Exact first_byte.ended (λ _ _. first_byte.clauses)
   -- message_read
-  pub read_message_lem : Exact read_message.ended (λ _ _. read_message.clauses)
-  pub route_at_lem : Exact route_at.ended (λ _ _. route_at.clauses)
-  pub padded_route_at_lem : Exact padded_route_at.ended (λ _ _. padded_route_at.clauses)
+  pub read_message : Exact read_message.ended (λ _ _. read_message.clauses)
+  pub route_at : Exact route_at.ended (λ _ _. route_at.clauses)
+  pub padded_route_at : Exact padded_route_at.ended (λ _ _. padded_route_at.clauses)
   -- open_read
   pub read_forward_open : Exact read_forward_open.ended (λ _ _. read_forward_open.clauses)
   -- close_read
@@ -292,8 +292,8 @@ pub record Claims : Type 2 where
   -- send_read
   pub read_unconnected_send : Exact read_unconnected_send.ended (λ _ _. read_unconnected_send.clauses)
   -- statuses
-  pub is_ok_lem : Exact is_ok.ended (λ _ _. is_ok.clauses)
-  pub is_routing_error_lem : Exact is_routing_error.ended (λ _ _. is_routing_error.clauses)
+  pub is_ok : Exact is_ok.ended (λ _ _. is_ok.clauses)
+  pub is_routing_error : Exact is_routing_error.ended (λ _ _. is_routing_error.clauses)
   -- reply_header
   pub read_reply_header : Exact read_reply_header.ended (λ _ _. read_reply_header.clauses)
   -- success_encode
@@ -305,23 +305,23 @@ pub record Claims : Type 2 where
   pub read_forward_open_reply : Exact read_forward_open_reply.ended (λ _ _. read_forward_open_reply.clauses)
   pub read_forward_close_reply : Exact read_forward_close_reply.ended (λ _ _. read_forward_close_reply.clauses)
   -- envelope
-  pub read_envelope_lem : Exact read_envelope.ended (λ _ _. read_envelope.clauses)
+  pub read_envelope : Exact read_envelope.ended (λ _ _. read_envelope.clauses)
   -- frames
-  pub reset_state_lem : Exact reset_state.ended (λ _ _. reset_state.clauses)
+  pub reset_state : Exact reset_state.ended (λ _ _. reset_state.clauses)
   pub step : Exact step.ended (λ _ _. step.clauses)
   pub take_scrap : Exact take_scrap.ended (λ _ _. take_scrap.clauses)
   pub reset : Exact reset.ended (λ _ _. reset.clauses)
   -- body_sizes
-  pub body_size_lem : Exact body_size.ended (λ _ _. body_size.clauses)
+  pub body_size : Exact body_size.ended (λ _ _. body_size.clauses)
   -- body_encode
   pub write_body : Exact write_body.ended (λ _ _. write_body.clauses)
   -- body_read
-  pub read_body_lem : Exact read_body.ended (λ _ _. read_body.clauses)
+  pub read_body : Exact read_body.ended (λ _ _. read_body.clauses)
   -- body_items
-  pub walk_item_lem : Exact walk_item.ended (λ _ _. walk_item.clauses)
-  pub body_item_lem : Exact body_item.ended (λ _ _. body_item.clauses)
+  pub walk_item : Exact walk_item.ended (λ _ _. walk_item.clauses)
+  pub body_item : Exact body_item.ended (λ _ _. body_item.clauses)
   -- body_replies
-  pub walk_reply_lem : Exact walk_reply.ended (λ _ _. walk_reply.clauses)
+  pub walk_reply : Exact walk_reply.ended (λ _ _. walk_reply.clauses)
   pub reply_item : Exact reply_item.ended (λ _ _. reply_item.clauses)
   -- body_join
   pub join_bodies : Exact join_bodies.ended (λ _ _. join_bodies.clauses)
@@ -335,7 +335,7 @@ pub record Claims : Type 2 where
   pub count_answer : Exact count_answer.ended (λ _ _. count_answer.clauses)
   pub fill : Exact fill.ended (λ _ _. fill.clauses)
   -- route_written
-  pub written_route_lem : Exact written_route.ended (λ _ _. written_route.clauses)
+  pub written_route : Exact written_route.ended (λ _ _. written_route.clauses)
   pub written_record : Exact written_record.ended (λ _ _. written_record.clauses)
   -- c_paths
   pub bark_path_size : Exact bark_path_size.ended (λ _ _. bark_path_size.clauses)
@@ -365,18 +365,18 @@ pub record Claims : Type 2 where
   pub bark_read_forward_close : Exact bark_read_forward_close.ended (λ _ _. bark_read_forward_close.clauses)
   pub bark_write_forward_close : Exact bark_write_forward_close.ended (λ _ _. bark_write_forward_close.clauses)
   -- c_reply_numbers
-  pub reply_numbers_lem : Exact reply_numbers.ended (λ _ _. reply_numbers.clauses)
+  pub reply_numbers : Exact reply_numbers.ended (λ _ _. reply_numbers.clauses)
   -- c_replies
   pub bark_read_reply : Exact bark_read_reply.ended (λ _ _. bark_read_reply.clauses)
   -- c_statuses
-  pub status_of_lem : Exact status_of.ended (λ _ _. status_of.clauses)
+  pub status_of : Exact status_of.ended (λ _ _. status_of.clauses)
   pub bark_is_routing_error : Exact bark_is_routing_error.ended (λ _ _. bark_is_routing_error.clauses)
   -- c_envelope
   pub bark_read_envelope : Exact bark_read_envelope.ended (λ _ _. bark_read_envelope.clauses)
   -- c_frames
   pub bark_take_scrap : Exact bark_take_scrap.ended (λ _ _. bark_take_scrap.clauses)
   -- c_failure_numbers
-  pub failure_numbers_lem : Exact failure_numbers.ended (λ _ _. failure_numbers.clauses)
+  pub failure_numbers : Exact failure_numbers.ended (λ _ _. failure_numbers.clauses)
   -- c_open_replies
   pub bark_read_forward_open_reply : Exact bark_read_forward_open_reply.ended (λ _ _. bark_read_forward_open_reply.clauses)
   -- c_close_replies
@@ -413,29 +413,29 @@ claims =
       put_u16 = WireWrite.put_u16_exact;
       put_u32 = WireWrite.put_u32_exact;
       put_bytes = WireWrite.put_bytes_exact;
-      hex_digit_lem = Hex.hex_digit_exact;
+      hex_digit = Hex.hex_digit_exact;
       blank_line = Lines.blank_line_exact;
       take_char = LineChars.take_char_exact;
       line_case = Lines.line_case_exact;
       blank_path = EpathLists.blank_path_exact;
       default_port = EpathLists.default_port_exact;
-      is_port_lem = EpathLists.is_port_exact;
-      segment_size_lem = EpathSizes.segment_size_exact;
-      path_size_lem = PathSizes.path_size_exact;
+      is_port = EpathLists.is_port_exact;
+      segment_size = EpathSizes.segment_size_exact;
+      path_size = PathSizes.path_size_exact;
       write_segment = EpathEncode.write_segment_exact;
       write_path = EpathEncode.write_path_exact;
       read_segment = EpathSegment.read_segment_exact;
-      check_path_lem = EpathCheck.check_path_exact;
-      read_path_lem = EpathRead.read_path_exact;
-      default_parameters_lem = Connection.default_parameters_exact;
-      default_options_lem = Connection.default_options_exact;
-      priority_tick_time_lem = Connection.priority_tick_time_exact;
+      check_path = EpathCheck.check_path_exact;
+      read_path = EpathRead.read_path_exact;
+      default_parameters = Connection.default_parameters_exact;
+      default_options = Connection.default_options_exact;
+      priority_tick_time = Connection.priority_tick_time_exact;
       encode_parameters = ConnectionWords.encode_parameters_exact;
       decode_parameters = ConnectionWords.decode_parameters_exact;
       transport_class_trigger = TransportWords.transport_class_trigger_exact;
       transport_of = TransportWords.transport_of_exact;
       put_triad = Triads.put_triad_exact;
-      route_size_lem = Route.route_size_exact;
+      route_size = Route.route_size_exact;
       default_connection_path = DefaultPath.default_connection_path_exact;
       forward_open_size = OpenSizes.forward_open_size_exact;
       forward_close_size = CloseSizes.forward_close_size_exact;
@@ -444,7 +444,7 @@ claims =
       put_close_fields = CloseFields.put_close_fields_exact;
       write_forward_close = CloseEncode.write_forward_close_exact;
       write_forward_close_over = CloseOver.write_forward_close_over_exact;
-      message_size_lem = RequestSizes.message_size_exact;
+      message_size = RequestSizes.message_size_exact;
       unconnected_send_size = RequestSizes.unconnected_send_size_exact;
       write_message = MessageEncode.write_message_exact;
       write_message_over = MessageOver.write_message_over_exact;
@@ -452,31 +452,31 @@ claims =
       write_unconnected_send = SendEncode.write_unconnected_send_exact;
       write_unconnected_send_over = SendOver.write_unconnected_send_over_exact;
       first_byte = RequestFirst.first_byte_exact;
-      read_message_lem = MessageRead.read_message_exact;
-      route_at_lem = MessageRead.route_at_exact;
-      padded_route_at_lem = MessageRead.padded_route_at_exact;
+      read_message = MessageRead.read_message_exact;
+      route_at = MessageRead.route_at_exact;
+      padded_route_at = MessageRead.padded_route_at_exact;
       read_forward_open = OpenRead.read_forward_open_exact;
       read_forward_close = CloseRead.read_forward_close_exact;
       read_unconnected_send = SendRead.read_unconnected_send_exact;
-      is_ok_lem = Statuses.is_ok_exact;
-      is_routing_error_lem = Statuses.is_routing_error_exact;
+      is_ok = Statuses.is_ok_exact;
+      is_routing_error = Statuses.is_routing_error_exact;
       read_reply_header = ReplyHeader.read_reply_header_exact;
       write_forward_open_success = SuccessEncode.write_forward_open_success_exact;
       write_forward_close_success = SuccessEncode.write_forward_close_success_exact;
       write_forward_failure = FailureEncode.write_forward_failure_exact;
       read_forward_open_reply = ReplyRead.read_forward_open_reply_exact;
       read_forward_close_reply = ReplyRead.read_forward_close_reply_exact;
-      read_envelope_lem = Envelope.read_envelope_exact;
-      reset_state_lem = Frames.reset_state_exact;
+      read_envelope = Envelope.read_envelope_exact;
+      reset_state = Frames.reset_state_exact;
       step = Frames.step_exact;
       take_scrap = Frames.take_scrap_exact;
       reset = Frames.reset_exact;
-      body_size_lem = BodySizes.body_size_exact;
+      body_size = BodySizes.body_size_exact;
       write_body = BodyEncode.write_body_exact;
-      read_body_lem = BodyRead.read_body_exact;
-      walk_item_lem = BodyItems.walk_item_exact;
-      body_item_lem = BodyItems.body_item_exact;
-      walk_reply_lem = BodyReplies.walk_reply_exact;
+      read_body = BodyRead.read_body_exact;
+      walk_item = BodyItems.walk_item_exact;
+      body_item = BodyItems.body_item_exact;
+      walk_reply = BodyReplies.walk_reply_exact;
       reply_item = BodyReplies.reply_item_exact;
       join_bodies = BodyJoin.join_bodies_exact;
       read_nested = Nested.read_nested_exact;
@@ -485,7 +485,7 @@ claims =
       size_answer = CAnswers.size_answer_exact;
       count_answer = CAnswers.count_answer_exact;
       fill = CAnswers.fill_exact;
-      written_route_lem = RouteWritten.written_route_exact;
+      written_route = RouteWritten.written_route_exact;
       written_record = RouteWritten.written_record_exact;
       bark_path_size = CPaths.bark_path_size_exact;
       bark_write_path = CPaths.bark_write_path_exact;
@@ -504,13 +504,13 @@ claims =
       bark_write_forward_open = COpenWrites.bark_write_forward_open_exact;
       bark_read_forward_close = CCloses.bark_read_forward_close_exact;
       bark_write_forward_close = CCloses.bark_write_forward_close_exact;
-      reply_numbers_lem = CReplyNumbers.reply_numbers_exact;
+      reply_numbers = CReplyNumbers.reply_numbers_exact;
       bark_read_reply = CReplies.bark_read_reply_exact;
-      status_of_lem = CStatuses.status_of_exact;
+      status_of = CStatuses.status_of_exact;
       bark_is_routing_error = CStatuses.bark_is_routing_error_exact;
       bark_read_envelope = CEnvelope.bark_read_envelope_exact;
       bark_take_scrap = CFrames.bark_take_scrap_exact;
-      failure_numbers_lem = CFailureNumbers.failure_numbers_exact;
+      failure_numbers = CFailureNumbers.failure_numbers_exact;
       bark_read_forward_open_reply = COpenReplies.bark_read_forward_open_reply_exact;
       bark_read_forward_close_reply = CCloseReplies.bark_read_forward_close_reply_exact;
       bark_write_forward_open_success = CReplyWrites.bark_write_forward_open_success_exact;

@@ -5,7 +5,7 @@ use mathlib.Core.List.{List, [], ◌∷◌, ◌++◌, append_assoc, append-nil}
 use lib.ListN.{length, take, drop}
 use lib.Seq.{take-append_seam}
 use Rattle.wire.specs.Parts.{overlay}
-use Rattle.wire.specs.Answers.{Answer, done, over, with_room, written}
+use Rattle.wire.specs.Answers.{Answer, done, with_room, written}
 use Rattle.wire.specs.Folds.{sizes}
 use Rattle.wire.proofs.Rules.{all_keep}
 use Rattle.wire.proofs.Answers.{room_kept, room_was}

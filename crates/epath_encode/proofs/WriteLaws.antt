@@ -219,26 +219,26 @@ module _ (pool : List ℕ) (s : Segment) (g : Good pool s) where
 
 -- room for a segment is room for its kind
 module _ (pool : List ℕ) (s : Segment) (room : ℕ) (r : length (encode_seg (meaning pool s)) ≤ room) where
-  in-kind : (t : Segment) → s ≡ t → length (encode_seg (meaning pool t)) ≤ room
-  in-kind t e = subst (λ (x : Segment). length (encode_seg (meaning pool x)) ≤ room) e r
+  in_kind : (t : Segment) → s ≡ t → length (encode_seg (meaning pool t)) ≤ room
+  in_kind t e = subst (λ (x : Segment). length (encode_seg (meaning pool x)) ≤ room) e r
 
   pub room_class : (v : ℕ) → s ≡ Class v → length (logical class_code v) ≤ room
-  room_class v e = in-kind (Class v) e
+  room_class v e = in_kind (Class v) e
 
   pub room_instance : (v : ℕ) → s ≡ Instance v → length (logical instance_code v) ≤ room
-  room_instance v e = in-kind (Instance v) e
+  room_instance v e = in_kind (Instance v) e
 
   pub room_attribute : (v : ℕ) → s ≡ Attribute v → length (logical attribute_code v) ≤ room
-  room_attribute v e = in-kind (Attribute v) e
+  room_attribute v e = in_kind (Attribute v) e
 
   pub room_element : (v : ℕ) → s ≡ Element v → length (logical element_code v) ≤ room
-  room_element v e = in-kind (Element v) e
+  room_element v e = in_kind (Element v) e
 
   pub room_symbol : (y : SymbolSegment) (bs : List ℕ) → s ≡ Symbol y → bs ≡ part pool y.start y.len → length (encode_seg (symbol bs)) ≤ room
-  room_symbol y bs e f = subst (λ (x : List ℕ). length (encode_seg (symbol x)) ≤ room) (sym f) (in-kind (Symbol y) e)
+  room_symbol y bs e f = subst (λ (x : List ℕ). length (encode_seg (symbol x)) ≤ room) (sym f) (in_kind (Symbol y) e)
 
   pub room_port : (q : PortSegment) (bs : List ℕ) → s ≡ Port q → bs ≡ part pool q.start q.len → length (encode_seg (port q.port bs)) ≤ room
-  room_port q bs e f = subst (λ (x : List ℕ). length (encode_seg (port q.port x)) ≤ room) (sym f) (in-kind (Port q) e)
+  room_port q bs e f = subst (λ (x : List ℕ). length (encode_seg (port q.port x)) ≤ room) (sym f) (in_kind (Port q) e)
 
 pub ruleset segment_laws = (of_kind, put_symbol, put_port, symbol_in, link_in, symbol_short, link_short, room_class, room_instance, room_attribute, room_element, room_symbol, room_port)
 

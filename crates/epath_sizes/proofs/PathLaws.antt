@@ -19,7 +19,7 @@ use Rattle.wire.proofs.Answers.{Parts, plus_parts}
 use Rattle.wire.proofs.Stores.{part_length}
 use Rattle.wire.proofs.Folds.{Adding, adding_first, adding_more, adding_stops, adding_ends, sizes_joined}
 use Rattle.epath_sizes.specs.Limits.{max_segments, max_symbol, max_link, most_bytes, symbol_code, class_code, instance_code, attribute_code, element_code}
-use Rattle.epath_sizes.specs.Segments.{port, logical, pad_of, padded, port_head, encode_seg, encode}
+use Rattle.epath_sizes.specs.Segments.{logical, pad_of, padded, port_head, encode_seg, encode}
 use Rattle.epath_sizes.specs.Lists.{meaning, slots_of, segs, segs_of}
 use Rattle.epath_sizes.specs.Sizes.{segment_size, path_size, Good, AllGoodIn, AllGood}
 use Rattle.epath_sizes.specs.declared.Segment.{Segment}

@@ -20,7 +20,7 @@ use Rattle.wire.proofs.Rules.{done_same, all_were, all_keep, same_refusal}
 use Rattle.wire.proofs.Numbers.{below_or}
 use Rattle.wire.proofs.Stores.{part_length}
 use Rattle.epath_sizes.specs.Limits.{max_symbol, max_link, near_port, class_code, instance_code, attribute_code, element_code, symbol_code}
-use Rattle.epath_sizes.specs.Segments.{port, logical, pad, padded, port_head, encode_seg}
+use Rattle.epath_sizes.specs.Segments.{logical, pad, padded, port_head, encode_seg}
 use Rattle.epath_sizes.specs.Lists.{meaning}
 use Rattle.epath_sizes.specs.Sizes.{part_rules, segment_rules, segment_size, Good}
 use Rattle.epath_sizes.specs.declared.Segment.{Segment}

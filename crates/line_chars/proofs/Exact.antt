@@ -1,6 +1,5 @@
 -- The public function takes every argument, and its contract leaves one answer and one content of what is lent.
 -- Assumes nothing.
-use mathlib.Core.Path.{refl}
 use Rattle.exact.specs.Exact.{Exact, exact, says, same}
 use Rattle.line_chars.specs.contracts.take_char
 

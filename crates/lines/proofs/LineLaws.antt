@@ -9,9 +9,7 @@ use lib.Dec.{leb}
 use borrow.Author.Tests.{le-leb, lt-leb, leb-true, eq-eqb, ne_eqb}
 use Rattle.lines.specs.Lines.{max_digits, no_digit, hex_value, byte_of, next_digit, kept_digit, next_char, kept_char, next, kept, case_of, case_line}
 use Rattle.lines.specs.declared.Line.{Line}
-use Rattle.lines.specs.declared.Line.TheVariants as Line
 use Rattle.lines.specs.declared.Case.{Case}
-use Rattle.lines.specs.declared.Case.TheVariants as Case
 
 -- ---- the value of a character
 module _ (b : ℕ) where

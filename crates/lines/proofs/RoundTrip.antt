@@ -1,5 +1,5 @@
 -- The text of bytes, two capital digits each, is read back as those bytes; blanks count for nothing. Assumes nothing.
-use Prim.Native.Nat.{ℕ, suc, ◌+◌, ◌*◌, ◌/◌, ◌%◌, ◌-◌, ◌≤◌, ◌<◌}
+use Prim.Native.Nat.{ℕ, suc, ◌+◌, ◌*◌, ◌/◌, ◌%◌, ◌≤◌, ◌<◌}
 use mathlib.Core.Path.{◌≡◌, refl, sym, ap, ◌∙◌}
 use mathlib.Core.List.{List, [], ◌∷◌}
 use mathlib.Core.Logic.{◌⊎◌, ⊎_elim}
@@ -12,9 +12,7 @@ use Rattle.hex_digits.specs.Hex.{hex_digit, hex_text}
 use Rattle.hex_digits.proofs.HexLaws.{ten_digit, letter_digit}
 use Rattle.lines.specs.Lines.{max_digits, no_digit, hex_value, byte_of, start, next, kept, taken, taken_bytes, case_of, case_line}
 use Rattle.lines.specs.declared.Line.{Line}
-use Rattle.lines.specs.declared.Line.TheVariants as Line
 use Rattle.lines.specs.declared.Case.{Case}
-use Rattle.lines.specs.declared.Case.TheVariants as Case
 use Rattle.lines.proofs.LineLaws.{is_digit, is_capital, one_more, first_kept, second_kept, digit_next, digit_kept, blank_next, tab_next, low_kept, case_bytes}
 
 -- ---- a digit says its value

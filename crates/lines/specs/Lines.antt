@@ -3,9 +3,7 @@
 use Rattle.std.specs.Prelude.{ℕ, ◌+◌, ◌*◌, ◌/◌, ◌%◌, ◌-◌, List, [], ◌∷◌, set, leb, eqb}
 use Rattle.wire.specs.Choice.{pick}
 use Rattle.lines.specs.declared.Line.{Line}
-use Rattle.lines.specs.declared.Line.TheVariants as Line
 use Rattle.lines.specs.declared.Case.{Case}
-use Rattle.lines.specs.declared.Case.TheVariants as Case
 
 abbrev pub max_digits : ℕ
 max_digits = 600000

@@ -7,9 +7,8 @@ use native.Mathlib.Omega.{arith}
 use mir.Val.{Fits}
 use mir.Syntax.{w8}
 use lib.ListN.{length, get_or}
-use lib.Dec.{eqb}
 use borrow.Author.Tests.{le-leb, eq-eqb}
-use Rattle.wire.specs.Choice.{pick, same_bytes}
+use Rattle.wire.specs.Choice.{same_bytes}
 use Rattle.wire.proofs.Choice.{pick_past, same_is, same_not}
 use Rattle.wire.specs.Parts.{part}
 use Rattle.epath_sizes.specs.Limits.{class_code, instance_code}

@@ -1,7 +1,7 @@
 -- What a message holds, and what that holds. CIP Volume 1: a message, 2-4.1; Multiple_Service_Packet, service 0A of the Message Router (class 2),
 -- Appendix A-4.10; Unconnected_Send, service 52 of the Connection Manager (class 6), 3-5.5.4. Rules and numbers from document 01, "Nesting and the
 -- dump". Assumes nothing: these are definitions.
-use Rattle.std.specs.Prelude.{ℕ, zero, suc, ◌+◌, ◌*◌, ◌-◌, ◌≡◌, List, [], ◌∷◌, ◌++◌, Bool, true, false, length, eqb}
+use Rattle.std.specs.Prelude.{ℕ, zero, suc, ◌+◌, ◌*◌, ◌-◌, ◌≡◌, List, [], ◌∷◌, ◌++◌, length, eqb}
 use Rattle.std.proofs.lemmas.List.Edits.{sets}
 use Rattle.wire.specs.Choice.{pick, same_bytes}
 use Rattle.wire.specs.Parts.{part}

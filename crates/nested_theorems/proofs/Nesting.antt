@@ -1,5 +1,5 @@
 -- Nested reading: what is opened, in what order rows stand, how deep, how many. Assumes nothing.
-use Prim.Native.Nat.{ℕ, zero, suc, ◌+◌, ◌*◌, ◌-◌, ◌≤◌}
+use Prim.Native.Nat.{ℕ, zero, suc, ◌*◌, ◌-◌, ◌≤◌}
 use mathlib.Core.Path.{◌≡◌, refl, sym, ap, ◌∙◌}
 use mathlib.Core.List.{List, [], ◌∷◌, ◌++◌}
 use mathlib.Core.Bool.{Bool, true, false}
@@ -147,13 +147,13 @@ between_less : (d e : ℕ) (a : List Row) → d ≤ e → Between e a → Betwee
 between_less d e [] h p = tt
 between_less d e (r ∷ a) h p = ((omega (arith, p.0.0), p.0.1), between_less d e a h p.1)
 
-in-order-between : (d : ℕ) (f : List ℕ → Answer (List Row)) → ((x : List ℕ) (rs : List Row) → f x ≡ done rs → Between d rs)
+in_order_between : (d : ℕ) (f : List ℕ → Answer (List Row)) → ((x : List ℕ) (rs : List Row) → f x ≡ done rs → Between d rs)
     → (xs : List (List ℕ)) (rs : List Row) → in_order f xs ≡ done rs → Between d rs
 unfolding in_order
-in-order-between d f b [] rs h = let e : [] ≡ rs = cc in rw (← e) tt
-in-order-between d f b (x ∷ xs) rs h =
+in_order_between d f b [] rs h = let e : [] ≡ rs = cc in rw (← e) tt
+in_order_between d f b (x ∷ xs) rs h =
     let a : Apart f x xs rs = apart f x xs rs h in
-    rw (← a.all) (between_append d a.first a.rest (b x a.first a.first_is) (in-order-between d f b xs a.rest a.rest_is))
+    rw (← a.all) (between_append d a.first a.rest (b x a.first a.first_is) (in_order_between d f b xs a.rest a.rest_is))
 
 pub depth_between : (n : ℕ) (s : List ℕ) (rs : List Row) → listed n s ≡ done rs → Between (levels - n) rs
 unfolding listed
@@ -162,7 +162,7 @@ depth_between (suc left) s rs h =
     let o : OneLevel left s rs = one_level left s rs h in
     let below : (x : List ℕ) (r : List Row) → listed left x ≡ done r → Between (levels - suc left) r
     = λ x r g. between_less (levels - suc left) (levels - left) r (omega arith) (depth_between left x r g) in
-    rw (← o.all) ((omega arith, omega arith), in-order-between (levels - suc left) (λ x. listed left x) below o.them o.more o.more_is)
+    rw (← o.all) ((omega arith, omega arith), in_order_between (levels - suc left) (λ x. listed left x) below o.them o.more o.more_is)
 
 -- a run with a place for each number of MAX_ROWS rows is never too short
 pub room_for_all : (s : List ℕ) (rs : List Row) (room : ℕ) → row_size * max_rows ≤ room → nested s ≡ done rs → counted (nested s) room ≡ done (length rs)

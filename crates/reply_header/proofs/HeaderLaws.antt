@@ -9,7 +9,7 @@ use Rattle.wire.specs.Answers.{done, refused}
 use Rattle.wire.proofs.Rules.{rules, all_were}
 use Rattle.wire.proofs.Choice.{pick_here, pick_past}
 use Rattle.connection.specs.Limits.{max_record}
-use Rattle.reply_header.specs.Headers.{most_words, data_start, header_rules, status_at, reply_at, read_header}
+use Rattle.reply_header.specs.Headers.{most_words, data_from, status_at, reply_at, read_header}
 use Rattle.statuses.specs.declared.ExtendedStatus.{ExtendedStatus}
 use Rattle.statuses.specs.declared.ExtendedStatus.TheVariants.{Absent, Word}
 use Rattle.statuses.specs.declared.Status.{Status}
@@ -37,10 +37,10 @@ module _ (s : List ℕ) where
   module _ (w : ℕ) (counted : w ≡ get_or s 3 0) (h : length s ≤ max_record) (g : 4 ≤ length s) where
     pub header_cut : length s < 4 + 2 * w → refused 1 ≡ read_header s
     unfolding read_header
-    header_cut f = let k : length s < data_start s = omega arith in search rules
+    header_cut f = let k : length s < data_from s = omega arith in search rules
 
     module _ (f : 4 + 2 * w ≤ length s) where
-      inside : data_start s ≤ length s
+      inside : data_from s ≤ length s
       inside = omega arith
 
       pub header_words : most_words < w → refused 6 ≡ read_header s
@@ -60,7 +60,7 @@ pub ruleset header_laws = (status_bare, status_word, header_limit, header_short,
 -- ---- backwards: what an answer that is no refusal says of the input
 pub record Header (s : List ℕ) (m : MessageReply) : Type 0 where
   pub small : length s ≤ max_record
-  pub inside : data_start s ≤ length s
+  pub inside : data_from s ≤ length s
   pub few : get_or s 3 0 ≤ most_words
   pub is : reply_at s ≡ m
 

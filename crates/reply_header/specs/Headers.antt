@@ -17,14 +17,14 @@ abbrev pub most_words : ℕ
 most_words = 1
 
 -- where the data starts, by the word count
-abbrev pub data_start : List ℕ → ℕ
-data_start s = 4 + 2 * get_or s 3 0
+abbrev pub data_from : List ℕ → ℕ
+data_from s = 4 + 2 * get_or s 3 0
 
 abbrev pub header_rules : List ℕ → List Rule
 header_rules s =
     over (length s) max_record 3
     ∷ under (length s) 4 1
-    ∷ under (length s) (data_start s) 1
+    ∷ under (length s) (data_from s) 1
     ∷ over (get_or s 3 0) most_words 6
     ∷ []
 
@@ -35,8 +35,8 @@ abbrev pub reply_at : List ℕ → MessageReply
 reply_at s = record {
   reply_service = get_or s 0 0;
   status = status_at s;
-  data_start = data_start s;
-  data_len = length s - data_start s;
+  data_start = data_from s;
+  data_len = length s - data_from s;
 }
 
 unfoldable pub read_header : List ℕ → Answer MessageReply

@@ -16,7 +16,7 @@ use Rattle.connection.specs.declared.ForwardRequestFail.{ForwardRequestFail}
 use Rattle.connection.specs.declared.RemainingPathSize.{RemainingPathSize}
 use Rattle.connection.specs.declared.RemainingPathSize.TheVariants.{Absent, Words}
 use Rattle.statuses.specs.Statuses.{is_ok}
-use Rattle.reply_header.specs.Headers.{data_start, read_header, paper_reply}
+use Rattle.reply_header.specs.Headers.{data_from, read_header, paper_reply}
 use Rattle.reply_header.specs.declared.MessageReply.{MessageReply}
 use Rattle.reply_header.specs.declared.ReplyRead.{ReplyRead}
 use Rattle.reply_header.specs.declared.ReplyRead.TheVariants.{Found as FoundReply, Refused as NoReply}
@@ -129,7 +129,7 @@ module _ {A : Type 0} (fields : List ℕ → ℕ → A) (size : ℕ) (routing : 
 pub header_near : (s : List ℕ) (r : ReplyRead) (m : MessageReply) → paper_reply r ≡ read_header s → r ≡ FoundReply m → m.data_start ≤ 1000
 header_near s r m is h =
     let w : Header s m = header_was s m (sym is ∙ ap paper_reply h) in
-    let e : data_start s ≡ m.data_start = ap (λ (x : MessageReply). x.data_start) w.is in
+    let e : data_from s ≡ m.data_start = ap (λ (x : MessageReply). x.data_start) w.is in
     omega (arith, w.few)
 
 pub ruleset reply_laws = (success_stops, success_found, failure_stops, failure_found, header_stops, header_goes, header_near)

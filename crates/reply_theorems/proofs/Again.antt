@@ -22,7 +22,7 @@ use Rattle.statuses.specs.Statuses.{is_ok}
 use Rattle.statuses.specs.Layouts.{header_fields}
 use Rattle.statuses.specs.declared.ExtendedStatus.{ExtendedStatus}
 use Rattle.statuses.specs.declared.ExtendedStatus.TheVariants.{Absent, Word}
-use Rattle.reply_header.specs.Headers.{most_words, data_start, status_at, read_header}
+use Rattle.reply_header.specs.Headers.{most_words, data_from, status_at, read_header}
 use Rattle.reply_header.specs.declared.MessageReply.{MessageReply}
 use Rattle.reply_header.proofs.HeaderLaws.{Header, header_was}
 use Rattle.success_encode.specs.Replies.{success, app_fields, open_success_fields, close_success_fields, open_reply_bytes, close_reply_bytes}
@@ -108,7 +108,7 @@ plain_was : {A : Type 0} (fields : List ℕ → ℕ → A) (size : ℕ) (routing
 plain_was fields size routing s m x start len h p =
     let w = success_was fields size routing s m x start len h in
     let n : get_or s 3 0 ≡ 0 = no_word s (ap (λ (k : MessageReply). k.status.extended) w.header.is ∙ p.bare) in
-    let d : data_start s ≡ m.data_start = ap (λ (k : MessageReply). k.data_start) w.header.is in
+    let d : data_from s ≡ m.data_start = ap (λ (k : MessageReply). k.data_start) w.header.is in
     let f : m.data_start ≡ 4 = omega arith in
     let e : start ≡ 4 + size + 2 = omega (arith, w.starts) in
     let l : length (part s start len) ≡ len = part_length s start len (omega (arith, w.here)) in
@@ -185,18 +185,18 @@ failure_was {A} fields size routing s m f h =
         let b : w.found ≡ f = cc in
         rw (← a) (record { header = header_was s n is; fields_are = done_same u.1 ∙ b; here = u.0.0 })
 
-header_again : (s : List ℕ) → Bytes s → data_start s ≤ length s → get_or s 3 0 ≤ most_words → get_or s 1 0 ≡ 0
-    → laid (header_fields (get_or s 0 0) (status_at s)) ++ drop (data_start s) s ≡ s
+header_again : (s : List ℕ) → Bytes s → data_from s ≤ length s → get_or s 3 0 ≤ most_words → get_or s 1 0 ≡ 0
+    → laid (header_fields (get_or s 0 0) (status_at s)) ++ drop (data_from s) s ≡ s
 header_again s b l few z = go (get_or s 3 0) refl
   where
-    go : (n : ℕ) → get_or s 3 0 ≡ n → laid (header_fields (get_or s 0 0) (status_at s)) ++ drop (data_start s) s ≡ s
+    go : (n : ℕ) → get_or s 3 0 ≡ n → laid (header_fields (get_or s 0 0) (status_at s)) ++ drop (data_from s) s ≡ s
     go zero e =
-        sym (fields_were (header_fields 0 (record { general = 0; extended = Absent })) (header_fields (get_or s 0 0) (status_at s)) s (drop (data_start s) s) 0 (data_start s) b (omega arith) l (rw (e, z)) refl)
+        sym (fields_were (header_fields 0 (record { general = 0; extended = Absent })) (header_fields (get_or s 0 0) (status_at s)) s (drop (data_from s) s) 0 (data_from s) b (omega arith) l (rw (e, z)) refl)
     go (suc n) e =
         let v : ExtendedStatus = Word (value_of 2 (drop 4 s)) in
         let o : get_or s 3 0 ≡ 1 = omega arith in
         let w : (status_at s).extended ≡ v = sym (pick_past (get_or s 3 0) 0 Absent v v (λ q. omega arith) refl) in
-        sym (fields_were (header_fields 0 (record { general = 0; extended = Word 0 })) (header_fields (get_or s 0 0) (status_at s)) s (drop (data_start s) s) 0 (data_start s) b (omega arith) l (rw (w, o, z)) refl)
+        sym (fields_were (header_fields 0 (record { general = 0; extended = Word 0 })) (header_fields (get_or s 0 0) (status_at s)) s (drop (data_from s) s) 0 (data_from s) b (omega arith) l (rw (w, o, z)) refl)
 
 fail_again : (routing : Bool) (s : List ℕ) (at : ℕ) → Bytes s → at + fail_size routing ≤ length s
     → laid (failure_fields (fail_at routing s at)) ++ drop (at + fail_size routing) s ≡ drop at s

@@ -17,7 +17,7 @@ use Rattle.statuses.specs.Layouts.{header_fields}
 use Rattle.statuses.specs.declared.ExtendedStatus.{ExtendedStatus}
 use Rattle.statuses.specs.declared.ExtendedStatus.TheVariants.{Absent, Word}
 use Rattle.statuses.specs.declared.Status.{Status}
-use Rattle.reply_header.specs.Headers.{data_start, status_at, read_header}
+use Rattle.reply_header.specs.Headers.{data_from, status_at, read_header}
 use Rattle.reply_header.specs.declared.MessageReply.{MessageReply}
 use Rattle.reply_header.proofs.HeaderLaws.{Header, header_was}
 
@@ -58,8 +58,8 @@ pub record Rest (s : List ℕ) (m : MessageReply) : Type 0 where
 pub header_rest : (s : List ℕ) (m : MessageReply) → read_header s ≡ done m → Rest s m
 header_rest s m h =
     let w : Header s m = header_was s m h in
-    let l : data_start s + (length s - data_start s) ≡ length s = omega (arith, w.inside) in
-    rw (← w.is) (record { whole = l; is = part_last s (data_start s) (length s - data_start s) (omega (arith, l)) })
+    let l : data_from s + (length s - data_from s) ≡ length s = omega (arith, w.inside) in
+    rw (← w.is) (record { whole = l; is = part_last s (data_from s) (length s - data_from s) (omega (arith, l)) })
 
 -- ---- and nothing of it is looked at: behind the same header other data gets the same answer, but for its length
 
@@ -81,18 +81,18 @@ pub header_alone : (s d : List ℕ) (m : MessageReply) → read_header s ≡ don
 unfolding read_header
 header_alone s d m h = let w : Header s m = header_was s m h in rw (← w.is) (go w)
   where
-    go : Header s m → data_start s + length d ≤ max_record
-        → read_header (take (data_start s) s ++ d)
-        ≡ done (record { reply_service = get_or s 0 0; status = status_at s; data_start = data_start s; data_len = length d })
+    go : Header s m → data_from s + length d ≤ max_record
+        → read_header (take (data_from s) s ++ d)
+        ≡ done (record { reply_service = get_or s 0 0; status = status_at s; data_start = data_from s; data_len = length d })
     go w small =
-        let k : ℕ = data_start s in
+        let k : ℕ = data_from s in
         let t : List ℕ = take k s ++ d in
         let front : (i : ℕ) → i < k → get_or t i 0 ≡ get_or s i 0 = λ i l. same_front s d k i l w.inside in
         let a : get_or t 0 0 ≡ get_or s 0 0 = front 0 (omega arith) in
         let b : get_or t 2 0 ≡ get_or s 2 0 = front 2 (omega arith) in
         let e : get_or t 3 0 ≡ get_or s 3 0 = front 3 (omega arith) in
         let n : length t ≡ k + length d = length-append (take k s) d ∙ ap (λ (j : ℕ). j + length d) (length-take-le k s w.inside) in
-        let r : length t - data_start s ≡ length d = omega arith in
+        let r : length t - data_from s ≡ length d = omega arith in
         let v : 1 ≤ get_or s 3 0 → value_of 2 (drop 4 t) ≡ value_of 2 (drop 4 s)
         = λ l. sym (value_two t 4 (get_or s 4 0) (get_or s 5 0) (sym (front 4 (omega arith))) (sym (front 5 (omega arith)))) ∙ value_two s 4 (get_or s 4 0) (get_or s 5 0) refl refl in
         all_keep _ _ (omega arith, (omega arith, (omega arith, (omega (arith, w.few), tt))))
