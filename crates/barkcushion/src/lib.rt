@@ -2,10 +2,10 @@
 // include/barkcushion.h has what C sees.
 #![tactic(auto)]
 
-mod paths; // Paths
-mod words; // Connection parameters, class and trigger
-mod requests; // Messages, Forward Close and Unconnected Send
-mod opens; // Forward Open
-mod replies; // Replies and the envelope
-mod bodies; // Bodies, the replies in them, and nested messages
-mod frames; // Frames of a stream
+mod paths; // paths.rt: paths
+mod words; // words.rt: connection parameters, class and trigger
+mod requests; // requests.rt: messages, Forward Close and Unconnected Send
+mod opens; // opens.rt: Forward Open
+mod replies; // replies.rt: replies and the envelope
+mod bodies; // bodies.rt: bodies, the replies in them, and nested messages
+mod scraps; // scraps.rt: frames of a stream
