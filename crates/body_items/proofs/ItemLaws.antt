@@ -129,7 +129,7 @@ module _ (s : List ℕ) (n : ℕ) (a : Accepted s n) where
   -- so a walk's answer is the body's own
   pub walk_same : (k : ℕ) → walk_item s n k ≡ judged (under n (k + 1) 11 ∷ []) (done (item_at s n k))
   unfolding walk_item
-  walk_same k = ⊎_elim (λ l. in-it l) (λ l. past l) (below_or k n)
+  walk_same k = ⊎_elim (λ l. in_it l) (λ l. past l) (below_or k n)
     where
       past : n ≤ k → walk_item s n k ≡ judged (under n (k + 1) 11 ∷ []) (done (item_at s n k))
       past l =
@@ -140,8 +140,8 @@ module _ (s : List ℕ) (n : ℕ) (a : Accepted s n) where
           let q : refused 11 ≡ judged (under n (k + 1) 11 ∷ []) (done (item_at s n k)) = search rules in
           sym p ∙ q
 
-      in-it : k < n → walk_item s n k ≡ judged (under n (k + 1) 11 ∷ []) (done (item_at s n k))
-      in-it l =
+      in_it : k < n → walk_item s n k ≡ judged (under n (k + 1) 11 ∷ []) (done (item_at s n k))
+      in_it l =
           let i : Span k = span k l in
           let g : k + 1 ≤ n = omega arith in
           all_keep _ _ (a.small, (a.table, (g, (i.behind, (omega (arith, i.some), (i.ends, tt))))))

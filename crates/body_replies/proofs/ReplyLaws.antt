@@ -45,7 +45,7 @@ in_fits at p w m l is h =
     let v : Header p m = header_was p m (sym is ∙ ap paper_reply h) in
     record { fits = omega (arith, v.small, v.inside, ap (λ (x : MessageReply). x.data_start) v.is) }
 
-pub ruleset in-laws = (in_refused, in_found, in_fits)
+pub ruleset in_laws = (in_refused, in_found, in_fits)
 
 -- ---- an item of a walk or of a body, whichever was asked
 module _ (s : List ℕ) (x : Answer Item) (w : ItemRead) (is : paper_item w ≡ x) where
