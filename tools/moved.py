@@ -7,7 +7,7 @@ For each of the four a line of counts, and behind it, crate by crate, the names 
   - definitions: each declaration in crates/*/specs/, whole, with the heads of the sections (`module _ .. where`) that it stands in
   - contracts: each `pub fn` and `pub extern "C" fn` in crates/*/src/, from its name to its body
   - laws by hand: each declaration in crates/*/proofs/, whole, and each function's proof file that is no laid one, as one
-  - laid proofs: each Answers.antt and Invariants.antt with a recipe (`--:`, see tools/prove.py)
+  - laid proofs: each function's Answers.antt with a recipe (`--:`, see tools/prove.py), and each Invariants.antt
 
 `moved` is the same text under the same name in another crate, `a -> b`. `moved and changed` goes by the name alone, where one crate lost it
 and one got it: it may be two things. What was renamed is `removed` and `new`. Text is compared without comments, white space, imports and
@@ -84,7 +84,7 @@ def contracts(text):
 def proof(text):
     """Whether it is laid, and the text of a function's proof file: the recipe and the rest, without imports."""
     lines = [line for line in text.split("\n") if line.startswith("--: ") or not line.startswith("--")]
-    recipe = any(line.startswith("--: ") for line in lines)
+    recipe = any(line.startswith(("--: ", "abbrev pub invariant-", "abbrev pub decreases-")) for line in lines)
     answers = re.findall(r"^(?!pub )\S+(?: \S+)* =\s+(.*)$", text.split("\npub ")[0], re.M)
     kept = [line for line in lines if not re.match(r"(--: )?use ", line)]
     return recipe or all(answer == "search needs" for answer in answers), "\n".join(kept)
@@ -95,7 +95,7 @@ def things(commit):
     found = {kind: collections.defaultdict(list) for kind in KINDS}
     for path, text in files(commit):
         _, crate, part, *rest = path.split("/")
-        if rest[-1] in ("Proof.antt", "Answers.antt", "Invariants.antt") and part == "proofs":
+        if len(rest) > 1 and rest[-1] in ("Proof.antt", "Answers.antt", "Invariants.antt") and part == "proofs":
             laid, whole = proof(text)
             named = [(LAID if laid else LAWS, rest[-2], whole)]
         elif path.endswith(".rt"):
