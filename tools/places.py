@@ -1,7 +1,7 @@
 #!/usr/bin/env python3
 """Counts the places that docs/DESIGN-PASS.md speaks of, in crates/*/src and proofs, point by point.
 
-    tools/places.py [TREE]          the counts, a line each; TREE: another checkout, such as `git worktree add /tmp/old COMMIT` makes
+    tools/places.py [TREE]          the counts, a line each; TREE: another checkout, such as `git worktree add ../old COMMIT` makes
     tools/places.py [TREE] --list   the places too
 """
 import collections
@@ -28,15 +28,11 @@ def variants(body):
 
 
 def result_like(m):
-    """A case that holds a refusal or an error, beside others; or two cases, one bare and one that holds something."""
+    """A case that holds a refusal or is named as one, beside others; or two cases, one bare and one that holds something."""
     v = variants(m[2])
     bare = [n for n, held in v if not held]
-    return any("Refusal" in held for _, held in v) or (len(v) == 2 and len(bare) == 1)
-
-
-def of_a_run(m):
-    """A loop over places of a run: its body takes the element at the index."""
-    return True
+    refused = any("Refusal" in held or name in ("Refused", "Failure", "Bad") for name, held in v)
+    return refused or (len(v) == 2 and len(bare) == 1)
 
 
 def by_index(m):
@@ -65,11 +61,11 @@ for title, found in counts:
 KEYWORDS = {"let", "mut", "if", "else", "match", "for", "in", "while", "return", "as", "fn", "pub", "usize", "u8", "u16", "u32", "bool", "true", "false"}
 shapes = collections.defaultdict(list)
 for p, t in code.items():
-    for m in re.finditer(r'^(?:pub(?:\(crate\))? )?(?:extern "C" )?fn (\w+)((?:.*\n)*?)\{\n((?:.*\n)*?)^\}$', t, re.M):
+    for m in re.finditer(r'^( *)(?:pub(?:\(crate\))? )?(?:extern "C" )?fn (\w+)(?:[^{;]|\{ (?=.*\}$))*?\{\n((?:.*\n)*?)^\1\}$', t, re.M):
         body = [w if w in KEYWORDS or not re.match(r"\w", w) else "x" for w in re.findall(r"\w+|[^\w\s]", m[3])]
         body = " ".join(body).replace("x : : x", "x").replace("x : : x", "x").replace(", )", ")")
-        if len(body) > 60:
-            shapes[body].append(f"{p.relative_to(root)}:{m[1]}")
+        if len(body) > 24:
+            shapes[body].append(f"{p.relative_to(root)}:{m[2]}")
 exports = [v for v in shapes.values() if all("/barkcushion" in w or "/c_" in w for w in v)]
 twins = [v for v in shapes.values() if len(v) > 1 and v not in exports]
 print(f"{sum(map(len, twins)):5}  2 functions that have another's shape, names and numbers aside, in {len(twins)} groups (exports for C left out)")

@@ -13,8 +13,10 @@ mod bodies; // bodies.rt: operations 30 to 34
 mod nests; // nests.rt: operation 40
 mod scraps; // scraps.rt: operation 50
 
+use fields::Fields;
 use lines::{Case, Line};
-use std::io::Read;
+use said::{Answer, Hex};
+use std::io::{self, Read};
 
 // Bytes of the longest case.
 const MAX_CASE: usize = lines::MAX_DIGITS / 2;
@@ -24,118 +26,82 @@ const MAX_REPLY: usize = nests::MAX_ROWS_REPLY;
 
 const NEWLINE: u8 = 10;
 
-// Writes an answer as one line, by way of text.
-fn print(answer: &[u8], text: &mut [u8]) {
-    for i in 0..answer.len() {
-        let b = wire_read::byte_at(answer, i);
-        wire_write::put_byte(text, 2 * i, hex_digits::hex_digit(b / 16));
-        wire_write::put_byte(text, 2 * i + 1, hex_digits::hex_digit(b));
-    }
-    let n = 2 * answer.len();
-    wire_write::put_byte(text, n, NEWLINE);
-    io::write_all(1, wire_read::part_of(text, 0, n + 1));
+// What the library's functions are lent, cleared once and not for each case.
+#[derive(Drop)]
+struct Lent<'a> {
+    out: &'a mut [u8],
+    run: &'a mut [u16],
+    lengths: &'a mut [usize],
 }
 
-// Puts the answer of a case at the front of reply, and answers how many bytes it has; 0 for what is no case.
-fn ask(case: &[u8], reply: &mut [u8]) -> usize {
-    let op = wire_read::byte_at(case, 0);
-    if op < 0x10 {
-        return paths::ask(op, case, reply);
-    }
-    if op < 0x18 {
-        return requests::ask(op, case, reply);
-    }
-    if op < 0x20 {
-        return request_reads::ask(op, case, reply);
-    }
-    if op < 0x23 || op == 0x26 {
-        return reply_reads::ask(op, case, reply);
-    }
-    if op < 0x28 {
-        return reply_writes::ask(op, case, reply);
-    }
-    if 0x30 <= op && op < 0x35 {
-        return bodies::ask(op, case, reply);
-    }
-    if op == 0x40 {
-        return nests::ask(case, reply);
-    }
-    if op == 0x50 {
-        return scraps::ask(case, reply);
-    }
-    0
-}
-
-fn answer(case: &[u8], reply: &mut [u8], text: &mut [u8]) {
-    let n = ask(case, reply);
-    if n == 0 {
-        io::write_all(1, b"bad\n");
-        return;
-    }
-    print(wire_read::part_of(reply, 0, n), text);
-}
-
-// A line that has ended.
-fn finish(line: Line, case: &[u8], reply: &mut [u8], text: &mut [u8]) {
-    match lines::line_case(line) {
-        Case::Nothing => {}
-        Case::Bytes(n) => answer(wire_read::part_of(case, 0, n), reply, text),
-        Case::Bad => {
-            io::write_all(1, b"bad\n");
-        }
+// Puts the answer of a case; None for what is no case.
+fn ask(case: &[u8], lent: &mut Lent<'_>, answer: &mut Answer<'_>) -> Option<()> {
+    let mut case = Fields::new(case);
+    let op = case.byte()?;
+    match op {
+        0x01..=0x07 => paths::ask(op, case, lent.out, answer),
+        0x10..=0x15 => requests::ask(op, case, lent.out, answer),
+        0x18..=0x1B => request_reads::ask(op, case, answer),
+        0x20..=0x22 | 0x26 => reply_reads::ask(op, case, answer),
+        0x23..=0x25 | 0x27 => reply_writes::ask(op, case, lent.out, answer),
+        0x30..=0x34 => bodies::ask(op, case, lent.lengths, lent.out, answer),
+        0x40 => nests::ask(case, lent.run, answer),
+        0x50 => scraps::ask(case, lent.out, answer),
+        _ => None,
     }
 }
 
-// A byte of the input goes to the line that it belongs to.
-fn step(b: u8, line: Line, case: &mut [u8], reply: &mut [u8], text: &mut [u8]) -> Line {
-    if b == NEWLINE {
-        finish(line, case, reply, text);
-        return lines::blank_line();
-    }
-    line_chars::take_char(line, b, case)
-}
-
-// What came of the input, byte by byte.
-fn feed(chunk: &[u8], line: Line, case: &mut [u8], reply: &mut [u8], text: &mut [u8]) -> Line {
-    let mut l = line;
-    for i in 0..chunk.len() {
-        l = step(wire_read::byte_at(chunk, i), l, case, reply, text);
-    }
-    l
+// A line that has ended, whose bytes lie at the front of case. An output that can't be written ends nothing.
+fn finish(rt: &impl Print, line: Line, case: &[u8], lent: &mut Lent<'_>, answer: &mut Answer<'_>) {
+    let len = match lines::line_case(line) {
+        Case::Nothing => return,
+        Case::Bytes(n) => n,
+        // no case has no bytes
+        Case::Bad => 0,
+    };
+    answer.clear();
+    let _ = match ask(wire_read::part_of(case, 0, len), lent, answer) {
+        Some(()) => println!(rt; "{}", Hex(answer.bytes())),
+        None => println!(rt; "bad"),
+    };
 }
 
 // A proved loop has to end, and nothing says that the input does. So the turns are counted, and no run uses them up.
-// A last line without a newline is answered too.
-fn run(
-    rt: &HostRuntime,
-    chunk: &mut [u8],
-    case: &mut [u8],
-    reply: &mut [u8],
-    text: &mut [u8],
-) -> std::io::Result<()> {
-    let mut input = rt.stdin();
+// A last line without a newline is answered too, also where the input ends in an error.
+fn run(rt: &HostRuntime, lent: &mut Lent<'_>, answer: &mut Answer<'_>) -> io::Result<()> {
+    let mut chunk = [0; 65536];
+    let mut case = [0; MAX_CASE];
     let mut line = lines::blank_line();
+    let mut input = rt.stdin();
+    let mut end = Ok(());
     for _ in 0..u64::MAX {
-        let n = match input.read(chunk) {
+        let n = match input.read(&mut chunk) {
+            Ok(0) => break,
             Ok(n) => n,
             Err(e) => {
-                finish(line, case, reply, text);
-                return Err(e);
+                end = Err(e);
+                break;
             }
         };
-        if n == 0 {
-            finish(line, case, reply, text);
-            return Ok(());
+        for b in wire_read::part_of(&chunk, 0, n) {
+            if *b == NEWLINE {
+                finish(rt, line, &case, lent, answer);
+                line = lines::blank_line();
+            } else {
+                line = line_chars::take_char(line, *b, &mut case);
+            }
         }
-        line = feed(wire_read::part_of(chunk, 0, n), line, case, reply, text);
     }
-    Ok(())
+    finish(rt, line, &case, lent, answer);
+    end
 }
 
-fn main(rt: HostRuntime) -> std::io::Result<()> {
-    let mut chunk = io::large_buffer();
-    let mut case = [0u8; MAX_CASE];
-    let mut reply = [0u8; MAX_REPLY];
-    let mut text = [0u8; 2 * MAX_REPLY + 1];
-    run(&rt, &mut chunk, &mut case, &mut reply, &mut text)
+fn main(rt: HostRuntime) -> io::Result<()> {
+    let mut reply = [0; MAX_REPLY];
+    let mut lent = Lent {
+        out: &mut [0; fields::MAX_ROOM],
+        run: &mut [0; nests::MAX_NUMBERS],
+        lengths: &mut [0; bodies::MAX_ITEMS],
+    };
+    run(&rt, &mut lent, &mut Answer::new(&mut reply))
 }

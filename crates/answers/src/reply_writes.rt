@@ -1,135 +1,90 @@
 // Operations 23 to 25 and 27: replies written, and routing errors.
-use crate::{fields, said};
-use connection::{ForwardCloseSuccess, ForwardOpenSuccess, ForwardRequestFail, RemainingPathSize};
-use statuses::{ExtendedStatus, Status};
+use crate::fields::Fields;
+use crate::said::Answer;
+use connection::{ForwardCloseSuccess, ForwardOpenSuccess, ForwardRequestFail};
+use statuses::Status;
 
-fn write_open(case: &[u8], answer: &mut [u8]) -> usize {
-    let data = fields::string(case, 26);
-    let end = fields::out_end(case, data.next);
-    if answer.len() < end {
-        return 0;
-    }
-    said::fill(answer, end);
+fn write_open(mut case: Fields<'_>, out: &mut [u8], answer: &mut Answer<'_>) -> Option<()> {
+    let service = case.byte()?;
     let o = ForwardOpenSuccess {
-        o_t_connection_id: wire_read::u32_at(case, 2),
-        t_o_connection_id: wire_read::u32_at(case, 6),
-        connection_serial_number: wire_read::u16_at(case, 10),
-        originator_vendor_id: wire_read::u16_at(case, 12),
-        originator_serial_number: wire_read::u32_at(case, 14),
-        o_t_api: wire_read::u32_at(case, 18),
-        t_o_api: wire_read::u32_at(case, 22),
+        o_t_connection_id: case.u32()?,
+        t_o_connection_id: case.u32()?,
+        connection_serial_number: case.u16()?,
+        originator_vendor_id: case.u16()?,
+        originator_serial_number: case.u32()?,
+        o_t_api: case.u32()?,
+        t_o_api: case.u32()?,
     };
-    let w = reply::write_forward_open_success(
-        wire_read::byte_at(case, 1),
-        o,
-        fields::bytes(case, data),
-        &mut answer[said::OUT_AT..end],
+    let data = case.string()?;
+    let out = out.get_mut(..case.room()?)?;
+    answer.written(
+        out,
+        |out| reply::write_forward_open_success(service, o, data, out),
     );
-    said::wrote(w, answer, end)
+    Some(())
 }
 
-fn write_close(case: &[u8], answer: &mut [u8]) -> usize {
-    let data = fields::string(case, 10);
-    let end = fields::out_end(case, data.next);
-    if answer.len() < end {
-        return 0;
-    }
-    said::fill(answer, end);
+fn write_close(mut case: Fields<'_>, out: &mut [u8], answer: &mut Answer<'_>) -> Option<()> {
+    let service = case.byte()?;
     let c = ForwardCloseSuccess {
-        connection_serial_number: wire_read::u16_at(case, 2),
-        originator_vendor_id: wire_read::u16_at(case, 4),
-        originator_serial_number: wire_read::u32_at(case, 6),
+        connection_serial_number: case.u16()?,
+        originator_vendor_id: case.u16()?,
+        originator_serial_number: case.u32()?,
     };
-    let w = reply::write_forward_close_success(
-        wire_read::byte_at(case, 1),
-        c,
-        fields::bytes(case, data),
-        &mut answer[said::OUT_AT..end],
+    let data = case.string()?;
+    let out = out.get_mut(..case.room()?)?;
+    answer.written(
+        out,
+        |out| reply::write_forward_close_success(service, c, data, out),
     );
-    said::wrote(w, answer, end)
+    Some(())
 }
 
-// A word behind 0 words is not used.
-fn status(general: u8, words: u8, word: u16) -> Status {
-    if words == 0 {
-        return Status {
-            general,
-            extended: ExtendedStatus::Absent,
-        };
-    }
-    Status {
+// A word behind 0 words is read and not used.
+fn status(case: &mut Fields<'_>) -> Option<Status> {
+    let general = case.byte()?;
+    let is_extended = case.flag()?;
+    let word = case.u16()?;
+    Some(Status {
         general,
-        extended: ExtendedStatus::Word(word),
-    }
+        extended: is_extended.then_some(word),
+    })
 }
 
-// A remaining size behind a flag 0 is not used.
-fn remaining(flag: u8, words: u8) -> RemainingPathSize {
-    if flag == 0 {
-        return RemainingPathSize::Absent;
-    }
-    RemainingPathSize::Words(words)
-}
-
-fn write_failure(case: &[u8], answer: &mut [u8]) -> usize {
-    let words = wire_read::byte_at(case, 3);
-    let flag = wire_read::byte_at(case, 14);
-    if !fields::is_flag(words) || !fields::is_flag(flag) {
-        return 0;
-    }
+fn write_failure(mut case: Fields<'_>, out: &mut [u8], answer: &mut Answer<'_>) -> Option<()> {
+    let service = case.byte()?;
+    let s = status(&mut case)?;
+    let serial = case.u16()?;
+    let vendor = case.u16()?;
+    let originator = case.u32()?;
+    // a size behind a flag 0 is read and not used
+    let is_remaining = case.flag()?;
+    let words = case.byte()?;
     let f = ForwardRequestFail {
-        connection_serial_number: wire_read::u16_at(case, 6),
-        originator_vendor_id: wire_read::u16_at(case, 8),
-        originator_serial_number: wire_read::u32_at(case, 10),
-        remaining_path_size: remaining(flag, wire_read::byte_at(case, 15)),
+        connection_serial_number: serial,
+        originator_vendor_id: vendor,
+        originator_serial_number: originator,
+        remaining_path_size: is_remaining.then_some(words),
     };
-    let s = status(
-        wire_read::byte_at(case, 2),
-        words,
-        wire_read::u16_at(case, 4),
-    );
-    let end = fields::out_end(case, 16);
-    if answer.len() < end {
-        return 0;
-    }
-    said::fill(answer, end);
-    let w = reply::write_forward_failure(
-        wire_read::byte_at(case, 1),
-        s,
-        f,
-        &mut answer[said::OUT_AT..end],
-    );
-    said::wrote(w, answer, end)
+    let out = out.get_mut(..case.room()?)?;
+    answer.written(out, |out| reply::write_forward_failure(service, s, f, out));
+    Some(())
 }
 
-fn is_routing_error(case: &[u8], answer: &mut [u8]) -> usize {
-    let words = wire_read::byte_at(case, 2);
-    if case.len() != 5 || !fields::is_flag(words) {
-        return 0;
-    }
-    let s = status(
-        wire_read::byte_at(case, 1),
-        words,
-        wire_read::u16_at(case, 3),
-    );
-    wire_write::put_byte(answer, 0, 0);
-    wire_write::put_byte(answer, 1, 0);
-    if reply::is_routing_error(s) {
-        wire_write::put_byte(answer, 1, 1);
-    }
-    2
+fn is_routing_error(mut case: Fields<'_>, answer: &mut Answer<'_>) -> Option<()> {
+    let s = status(&mut case)?;
+    case.end()?;
+    answer.put(&[0, u8::from(reply::is_routing_error(s))]);
+    Some(())
 }
 
-// Puts the answer of a case at the front of answer, and answers how many bytes it has; 0 for what is no case.
-pub(crate) fn ask(op: u8, case: &[u8], answer: &mut [u8]) -> usize {
-    if op == 0x23 {
-        return write_open(case, answer);
+// Puts the answer of a case; None for what is no case.
+pub(crate) fn ask(op: u8, case: Fields<'_>, out: &mut [u8], answer: &mut Answer<'_>) -> Option<()> {
+    match op {
+        0x23 => write_open(case, out, answer),
+        0x24 => write_close(case, out, answer),
+        0x25 => write_failure(case, out, answer),
+        0x27 => is_routing_error(case, answer),
+        _ => None,
     }
-    if op == 0x24 {
-        return write_close(case, answer);
-    }
-    if op == 0x25 {
-        return write_failure(case, answer);
-    }
-    is_routing_error(case, answer)
 }

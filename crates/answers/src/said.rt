@@ -1,118 +1,133 @@
-// The bytes of an answer, put at the front of reply; each function answers how many they are.
-ghost use Rattle.std.specs.Prelude.{◌≤◌};
-
-use epath::{PortSegment, Segment, SymbolSegment};
-use wire::{Counted, Refusal, Wrote};
+// The answer of a case.
+use crate::fields::MAX_ROOM;
+use epath::Segment;
+use statuses::Status;
+use std::fmt;
+use wire::Refusal;
 
 // What an output holds before it is lent, so that what is not written shows.
 const BLANK: u8 = 0xA5;
 
-// Bytes of a size, which a refusal has not.
-const SIZE: usize = 4;
+// The bytes of an answer so far: room for them, and how many they are.
+#[derive(Drop)]
+pub struct Answer<'a> {
+    room: &'a mut [u8],
+    len: usize,
+}
 
-// Where a writer's output stands in its answer: behind the byte that accepts and the size.
-pub const OUT_AT: usize = 1 + SIZE;
-
-// Makes the output that ends there ready.
-pub(crate) fn fill(reply: &mut [u8], end: usize) {
-    for i in OUT_AT..end {
-        wire_write::put_byte(reply, i, BLANK);
+impl<'a> Answer<'a> {
+    pub(crate) fn new(room: &'a mut [u8]) -> Answer<'a> {
+        Answer { room, len: 0 }
     }
-}
 
-// Moves what stands from a place to an end so much to the front: before a refusal's output stands less than before another's.
-pub(crate) fn move_down(reply: &mut [u8], at: usize, end: usize, by: usize)
-    requires { by ≤ at }
-{
-    for i in at..end {
-        let b = wire_read::byte_at(reply, i);
-        wire_write::put_byte(reply, i - by, b);
+    pub(crate) fn clear(&mut self) {
+        self.len = 0;
     }
-}
 
-// No number of an answer is larger.
-pub(crate) fn put_number(reply: &mut [u8], at: usize, n: usize) {
-    wire_write::put_u32(reply, at, (n % 4294967296) as u32);
-}
-
-// A part of the input: start and length.
-pub(crate) fn put_part(reply: &mut [u8], at: usize, start: usize, len: usize) {
-    if reply.len() <= at {
-        return;
+    pub(crate) fn bytes(&self) -> &[u8] {
+        wire_read::part_of(self.room, 0, self.len)
     }
-    put_number(reply, at, start);
-    put_number(reply, at + 4, len);
-}
 
-pub(crate) fn refused(e: Refusal, reply: &mut [u8]) -> usize {
-    wire_write::put_byte(reply, 0, wire::refusal_number(e));
-    1
-}
-
-// A number.
-fn number(n: usize, reply: &mut [u8]) -> usize {
-    wire_write::put_byte(reply, 0, 0);
-    put_number(reply, 1, n);
-    5
-}
-
-pub(crate) fn sized(w: Wrote, reply: &mut [u8]) -> usize {
-    match w {
-        Wrote::Size(n) => number(n, reply),
-        Wrote::Refused(e) => refused(e, reply),
+    // The room is that of the longest answer, so nothing is cut.
+    pub(crate) fn put(&mut self, s: &[u8]) {
+        wire_write::put_bytes(self.room, self.len, s);
+        self.len = self.len.saturating_add(s.len());
     }
-}
 
-pub(crate) fn counted(c: Counted, reply: &mut [u8]) -> usize {
-    match c {
-        Counted::Count(n) => number(n, reply),
-        Counted::Refused(e) => refused(e, reply),
+    pub(crate) fn u16(&mut self, n: u16) {
+        self.put(&n.to_le_bytes());
     }
-}
 
-// A writer's answer, with the whole output, which ends there.
-pub(crate) fn wrote(w: Wrote, reply: &mut [u8], end: usize) -> usize
-    requires { 5 ≤ end }
-{
-    match w {
-        Wrote::Size(n) => {
-            number(n, reply);
-            end
-        }
-        Wrote::Refused(e) => {
-            move_down(reply, OUT_AT, end, SIZE);
-            refused(e, reply);
-            end - SIZE
+    pub(crate) fn u32(&mut self, n: u32) {
+        self.put(&n.to_le_bytes());
+    }
+
+    // A size, a count or a place. None of an answer is larger.
+    pub(crate) fn number(&mut self, n: usize) {
+        self.u32((n % 4294967296) as u32);
+    }
+
+    // A part of the input: start and length.
+    pub(crate) fn part(&mut self, start: usize, len: usize) {
+        self.number(start);
+        self.number(len);
+    }
+
+    // The first byte: 00, with what was accepted, or the refusal's number.
+    pub(crate) fn judge<T>(&mut self, r: Result<T, Refusal>) -> Option<T> {
+        match r {
+            Ok(x) => {
+                self.put(&[0]);
+                Some(x)
+            }
+            Err(e) => {
+                self.put(&[wire::refusal_number(e)]);
+                None
+            }
         }
     }
-}
 
-fn put_segment(kind: u8, number: u32, start: u32, len: u32, reply: &mut [u8], at: usize) {
-    if reply.len() <= at {
-        return;
+    // A size or a count, or the refusal.
+    pub(crate) fn counted(&mut self, r: Result<usize, Refusal>) {
+        if let Some(n) = self.judge(r) {
+            self.number(n);
+        }
     }
-    wire_write::put_byte(reply, at, kind);
-    wire_write::put_u32(reply, at + 1, number);
-    wire_write::put_u32(reply, at + 5, start);
-    wire_write::put_u32(reply, at + 9, len);
+
+    // A writer's answer: what it says, and the whole output that it was lent.
+    pub(crate) fn written<F: FnOnce(&mut [u8]) -> Result<usize, Refusal>>(
+        &mut self,
+        out: &mut [u8],
+        write: F,
+    )
+        requires { F.IsAlwaysCallable write }
+    {
+        out.fill(BLANK);
+        self.counted(write(&mut *out));
+        self.put(out);
+    }
+
+    // Kind, number, start, length.
+    fn fields(&mut self, kind: u8, number: u32, start: u32, len: u32) {
+        self.put(&[kind]);
+        self.u32(number);
+        self.u32(start);
+        self.u32(len);
+    }
+
+    // A segment as a case has it.
+    pub(crate) fn segment(&mut self, x: Segment) {
+        match x {
+            Segment::Symbol(y) => self.fields(0, 0, y.start, y.len),
+            Segment::Class(v) => self.fields(1, u32::from(v), 0, 0),
+            Segment::Instance(v) => self.fields(2, u32::from(v), 0, 0),
+            Segment::Attribute(v) => self.fields(3, u32::from(v), 0, 0),
+            Segment::Element(v) => self.fields(4, v, 0, 0),
+            Segment::Port(q) => self.fields(5, u32::from(q.port), q.start, q.len),
+        }
+    }
+
+    pub(crate) fn status(&mut self, s: Status) {
+        self.put(&[s.general]);
+        match s.extended {
+            None => self.put(&[0, 0, 0]),
+            Some(word) => {
+                self.put(&[1]);
+                self.u16(word);
+            }
+        }
+    }
 }
 
-fn put_symbol(y: SymbolSegment, reply: &mut [u8], at: usize) {
-    put_segment(0, 0, y.start, y.len, reply, at);
-}
+// An answer's line: capital hex.
+#[derive(Clone, Copy)]
+pub struct Hex<'a>(pub &'a [u8]);
 
-fn put_port(q: PortSegment, reply: &mut [u8], at: usize) {
-    put_segment(5, q.port as u32, q.start, q.len, reply, at);
-}
-
-// The segment as a case has it: kind, number, start, length.
-pub(crate) fn segment(x: Segment, reply: &mut [u8], at: usize) {
-    match x {
-        Segment::Symbol(y) => put_symbol(y, reply, at),
-        Segment::Class(v) => put_segment(1, v as u32, 0, 0, reply, at),
-        Segment::Instance(v) => put_segment(2, v as u32, 0, 0, reply, at),
-        Segment::Attribute(v) => put_segment(3, v as u32, 0, 0, reply, at),
-        Segment::Element(v) => put_segment(4, v, 0, 0, reply, at),
-        Segment::Port(q) => put_port(q, reply, at),
+impl fmt::Display for Hex<'_> {
+    fn fmt<W: fmt::Write>(&self, f: &mut fmt::Formatter<W>) -> fmt::Result {
+        for b in self.0 {
+            write!(f, "{b:02X}")?;
+        }
+        Ok(())
     }
 }

@@ -10,9 +10,7 @@ use mir.Syntax.{w16, w64}
 use Rattle.wire.specs.Numbers.{low_first}
 use Rattle.wire.specs.Parts.{part}
 use Rattle.wire.specs.Folds.{joined}
-use Rattle.wire.specs.Answers.{paper_size}
-use Rattle.wire.specs.declared.Wrote.{Wrote}
-use Rattle.wire.specs.declared.Wrote.TheVariants.{Size}
+use Rattle.wire.specs.Answers.{done}
 use Rattle.wire.proofs.Numbers.{low_length}
 use Rattle.wire.proofs.Stores.{sets_onto}
 use Rattle.connection.specs.Limits.{max_record}
@@ -62,9 +60,9 @@ module _ (ns old : List ℕ) where
 pub ruleset placing_laws = (placing_first, placing_place, placing_ends, placing_sum, placing_more)
 
 -- ---- the writer's own ends
-module _ (s ns : List ℕ) (w : Wrote) (is : paper_size w ≡ body_size (length s) ns) (size : ℕ) (h : w ≡ Size size) where
+module _ (s ns : List ℕ) (size : ℕ) (is : done size ≡ body_size (length s) ns) where
   whole : BodySized (length s) ns size
-  whole = body_sized (length s) ns size (sym is ∙ ap paper_size h)
+  whole = body_sized (length s) ns size (sym is)
 
   pub body_small : table_end (length ns) + sum_of ns ≤ max_record
   body_small = omega (arith, whole.is, whole.small)

@@ -7,11 +7,8 @@ use native.Mathlib.Omega.{arith}
 use native.Mathlib.Numerals.{add-one}
 use lib.ListN.{length, get_or}
 use borrow.Author.Tests.{lt-ltb, le-ltb}
-use Rattle.wire.specs.Refusals.{number}
-use Rattle.wire.specs.Answers.{done, refused, paper_count, under, judged}
-use Rattle.wire.specs.declared.Refusal.{Refusal}
-use Rattle.wire.specs.declared.Counted.{Counted}
-use Rattle.wire.specs.declared.Counted.TheVariants.{Count, Refused as NotCounted}
+use Rattle.std.specs.Int.{from_le_bytes, w16}
+use Rattle.wire.specs.Answers.{Answer, done, refused, under, judged}
 use Rattle.wire.proofs.Rules.{rules, done_same, all_keep, all_were, then_stops, then_goes, Went, then_were}
 use Rattle.wire.proofs.Numbers.{below_or, value_two}
 use Rattle.wire.proofs.Stores.{part_length}
@@ -20,12 +17,11 @@ use Rattle.body_sizes.specs.Bodies.{table_end}
 use Rattle.body_read.specs.Reads.{offset_at, read_body}
 use Rattle.body_read.proofs.Accepts.{Accepted, accepted}
 use Rattle.body_items.specs.declared.Item.{Item}
-use Rattle.body_items.specs.declared.ItemRead.{ItemRead}
-use Rattle.body_items.specs.Items.{stop_at, item_at, bytes_in, body_item, walk_item, paper_item}
+use Rattle.body_items.specs.Items.{stop_at, item_at, bytes_in, body_item, walk_item}
 
 -- ---- where an item starts
-pub offset_read : (s : List ℕ) (k r : ℕ) → r ≡ get_or s (2 + 2 * k) 0 + 256 * get_or s (2 + 2 * k + 1) 0 → r ≡ offset_at s k
-offset_read s k r e = e ∙ value_two s (2 + 2 * k) (get_or s (2 + 2 * k) 0) (get_or s (2 + 2 * k + 1) 0) refl refl
+pub offset_read : (s : List ℕ) (k r : ℕ) → r ≡ from_le_bytes w16 (get_or s (2 + 2 * k) 0 ∷ get_or s (2 + 2 * k + 1) 0 ∷ []) → r ≡ offset_at s k
+offset_read s k r e = omega (arith, e, value_two s (2 + 2 * k) (get_or s (2 + 2 * k) 0) (get_or s (2 + 2 * k + 1) 0) refl refl)
 
 pub ruleset offset_laws = (offset_read)
 
@@ -148,16 +144,13 @@ module _ (s : List ℕ) (n : ℕ) (a : Accepted s n) where
           ∙ sym (all_keep _ _ (g, tt))
 
 -- ---- an item of a body
-module _ (s : List ℕ) (k : ℕ) (w : Counted) (is : paper_count w ≡ read_body s) where
-  pub item_refused : (e : Refusal) → w ≡ NotCounted e → refused (number e) ≡ body_item s k
-  unfolding body_item
-  item_refused e h = then_stops _ _ (number e) (sym is ∙ ap paper_count h)
+pub item_refused : (s : List ℕ) (k e : ℕ) → refused e ≡ read_body s → refused e ≡ body_item s k
+unfolding body_item
+item_refused s k e h = then_stops _ _ e (sym h)
 
-  pub item_found : (n : ℕ) (r : ItemRead) → w ≡ Count n → paper_item r ≡ walk_item s n k → paper_item r ≡ body_item s k
-  unfolding body_item
-  item_found n r h e =
-      let c : read_body s ≡ done n = sym is ∙ ap paper_count h in
-      then_goes _ _ n (paper_item r) c (e ∙ walk_same s n (accepted s n c) k)
+pub item_found : (s : List ℕ) (k n : ℕ) (x : Answer Item) → done n ≡ read_body s → x ≡ walk_item s n k → x ≡ body_item s k
+unfolding body_item
+item_found s k n x h e = then_goes _ _ n x (sym h) (e ∙ walk_same s n (accepted s n (sym h)) k)
 
 pub ruleset item_laws = (item_refused, item_found)
 

@@ -3,14 +3,11 @@
 use Rattle.std.specs.Prelude.{ℕ, zero, suc, ◌+◌, ◌-◌, List, [], ◌∷◌, length, ltb}
 use Rattle.wire.specs.Choice.{pick}
 use Rattle.wire.specs.Parts.{part}
-use Rattle.wire.specs.Refusals.{number}
-use Rattle.wire.specs.Answers.{Answer, done, refused, Rule, under, over, judged, and_then}
+use Rattle.wire.specs.Answers.{Answer, done, Rule, under, over, judged, and_then}
 use Rattle.connection.specs.Limits.{max_record}
 use Rattle.body_sizes.specs.Bodies.{table_end}
 use Rattle.body_read.specs.Reads.{count_at, offset_at, read_body}
 use Rattle.body_items.specs.declared.Item.{Item}
-use Rattle.body_items.specs.declared.ItemRead.{ItemRead}
-use Rattle.body_items.specs.declared.ItemRead.TheVariants.{Found, Refused}
 
 -- where item k of n ends
 abbrev pub stop_at : List ℕ → ℕ → ℕ → ℕ
@@ -37,12 +34,6 @@ walk_rules s n k =
 
 unfoldable pub walk_item : List ℕ → ℕ → ℕ → Answer Item
 walk_item s n k = judged (walk_rules s n k) (done (item_at s n k))
-
--- ---- what the functions answer
-
-abbrev pub paper_item : ItemRead → Answer Item
-paper_item (Found i) = done i
-paper_item (Refused e) = refused (number e)
 
 -- ---- the items themselves
 

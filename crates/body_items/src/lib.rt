@@ -3,12 +3,13 @@
 #![tactic(auto)]
 
 ghost use Rattle.std.specs.Prelude.{◌≡◌, ◌+◌, ◌*◌, ◌≤◌, ◌<◌, length};
+ghost use Rattle.wire.specs.Answers.{paper};
 ghost use Rattle.body_sizes.specs.Bodies.{table_end};
 ghost use Rattle.body_read.specs.Reads.{offset_at};
-ghost use Rattle.body_items.specs.Items.{stop_at, walk_item, body_item, paper_item};
+ghost use Rattle.body_items.specs.Items.{stop_at, walk_item, body_item};
 
 use body_read::read_body;
-use wire::{Counted, Refusal};
+use wire::Refusal;
 
 // A part of the body.
 #[derive(Clone, Copy)]
@@ -17,26 +18,14 @@ pub struct Item {
     pub len: usize,
 }
 
-#[derive(Clone, Copy)]
-pub enum ItemRead {
-    Found(Item),
-    Refused(Refusal),
-}
-
-// A number of two bytes.
-fn two_bytes(low: u8, high: u8) -> usize
-    ensures { result ≡ low + 256 * high }
-{
-    low as usize + 256 * (high as usize)
-}
-
 // Where an item starts: at its own offset, which the table has.
+#[tactic(auto, using(crate::proofs::ItemLaws::offset_laws))]
 fn start_at(s: &[u8], index: usize) -> usize
     requires { table_end (index + 1) ≤ length s.now }
     ensures { result ≡ offset_at s.now index }
 {
     let at = 2 + 2 * index;
-    two_bytes(s[at], s[at + 1])
+    u16::from_le_bytes([s[at], s[at + 1]]) as usize
 }
 
 // Where an item ends: at the next one's offset, the last at the end.
@@ -52,42 +41,42 @@ fn stop_at(s: &[u8], count: usize, index: usize) -> usize
 
 // An item of a body that `read_body` found to have count items: a walk asks `read_body` once, and here for each index, where two offsets are read.
 // Whatever the count and the bytes are, what is found is a part behind the table.
-pub fn walk_item(s: &[u8], count: usize, index: usize) -> ItemRead
-    ensures { paper_item result ≡ walk_item s.now count index }
+#[tactic(auto, using(crate::proofs::ItemLaws::walk_laws))]
+pub fn walk_item(s: &[u8], count: usize, index: usize) -> Result<Item, Refusal>
+    ensures { paper result ≡ walk_item s.now count index }
 {
     if connection::MAX_RECORD < s.len() {
-        return ItemRead::Refused(Refusal::Limit);
+        return Err(Refusal::Limit);
     }
     // that is s.len() < 2 + 2 * count, where that sum may wrap; behind it every offset of the table is there
     if s.len() / 2 <= count {
-        return ItemRead::Refused(Refusal::Short);
+        return Err(Refusal::Short);
     }
     if count <= index {
-        return ItemRead::Refused(Refusal::Outside);
+        return Err(Refusal::Outside);
     }
     let start = start_at(s, index);
     let stop = stop_at(s, count, index);
     if start < 2 + 2 * count {
-        return ItemRead::Refused(Refusal::Offset);
+        return Err(Refusal::Offset);
     }
     if stop <= start {
-        return ItemRead::Refused(Refusal::Offset);
+        return Err(Refusal::Offset);
     }
     if s.len() < stop {
-        return ItemRead::Refused(Refusal::Offset);
+        return Err(Refusal::Offset);
     }
-    ItemRead::Found(Item {
+    Ok(Item {
         start,
         len: stop - start,
     })
 }
 
 // An item of a body. It judges the whole table each time: `walk_item` is for more than one.
-pub fn body_item(s: &[u8], index: usize) -> ItemRead
-    ensures { paper_item result ≡ body_item s.now index }
+#[tactic(auto, using(crate::proofs::ItemLaws::item_laws))]
+pub fn body_item(s: &[u8], index: usize) -> Result<Item, Refusal>
+    ensures { paper result ≡ body_item s.now index }
 {
-    match read_body(s) {
-        Counted::Refused(e) => ItemRead::Refused(e),
-        Counted::Count(n) => walk_item(s, n, index),
-    }
+    let n = read_body(s)?;
+    walk_item(s, n, index)
 }

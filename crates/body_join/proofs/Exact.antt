@@ -1,9 +1,9 @@
 -- Each public function takes every argument, and its contract leaves one answer and one content of the lent output.
 -- Assumes nothing.
 use Rattle.exact.specs.Exact.{Exact, exact, says, same}
-use Rattle.wire.proofs.Answers.{size_one}
+use Rattle.wire.proofs.Answers.{answer_one}
 use Rattle.body_join.specs.contracts.join_bodies
 
 pub join_bodies_exact : Exact join_bodies.ended (λ _ _. join_bodies.clauses)
 join_bodies_exact = exact (λ w κs a. (tt, λ m. tt)) (λ w κs a g z e. search says) (λ t.
-    (size_one t.z t.z' (same t.said.0 t.said'.0), λ i. (tt, (tt, (same t.said.1 t.said'.1 i, tt)))))
+    (answer_one t.z t.z' (same t.said.0 t.said'.0), λ i. (tt, (tt, (same t.said.1 t.said'.1 i, tt)))))

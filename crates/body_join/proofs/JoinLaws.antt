@@ -10,13 +10,7 @@ use mir.Syntax.{w16, w64}
 use Rattle.wire.specs.Numbers.{value_of, low_first}
 use Rattle.wire.specs.Parts.{part}
 use Rattle.wire.specs.Folds.{joined}
-use Rattle.wire.specs.Refusals.{number}
-use Rattle.wire.specs.Answers.{Answer, done, refused, paper_size, paper_count, and_then, within_limit}
-use Rattle.wire.specs.declared.Refusal.{Refusal}
-use Rattle.wire.specs.declared.Counted.{Counted}
-use Rattle.wire.specs.declared.Counted.TheVariants.{Count, Refused as NotCounted}
-use Rattle.wire.specs.declared.Wrote.{Wrote}
-use Rattle.wire.specs.declared.Wrote.TheVariants.{Size}
+use Rattle.wire.specs.Answers.{Answer, done, refused, and_then, within_limit}
 use Rattle.wire.proofs.Rules.{rules, then_stops, then_goes, Went, then_were, within_was}
 use Rattle.wire.proofs.Numbers.{low_length}
 use Rattle.wire.proofs.Stores.{sets_onto, part_last}
@@ -53,37 +47,29 @@ module _ (a b : List ℕ) (m n : ℕ) (p : Accepted a m) (q : Accepted b n) wher
       )
 
 -- ---- the ends of the sizer
-module _ (a b : List ℕ) (v : Counted) (first : paper_count v ≡ read_body a) where
+module _ (a b : List ℕ) where
   abbrev rest : Answer ℕ
   rest = and_then (read_body b) (λ n. within_limit max_record (length (join_of a b)))
 
-  pub size_first : (e : Refusal) → v ≡ NotCounted e → refused (number e) ≡ join_size a b
+  pub size_first : (e : ℕ) → refused e ≡ read_body a → refused e ≡ join_size a b
   unfolding join_size
-  size_first e h = then_stops _ _ (number e) (sym first ∙ ap paper_count h)
+  size_first e h = then_stops _ _ e (sym h)
 
-  module _ (m : ℕ) (h : v ≡ Count m) (w : Counted) (second : paper_count w ≡ read_body b) where
-    read_first : read_body a ≡ done m
-    read_first = sym first ∙ ap paper_count h
-
-    pub size_second : (e : Refusal) → w ≡ NotCounted e → refused (number e) ≡ join_size a b
+  module _ (m : ℕ) (first : done m ≡ read_body a) where
+    pub size_second : (e : ℕ) → refused e ≡ read_body b → refused e ≡ join_size a b
     unfolding join_size
-    size_second e g =
-        then_goes _ _ m (refused (number e)) read_first
-        (then_stops _ _ (number e) (sym second ∙ ap paper_count g))
+    size_second e h = then_goes _ _ m (refused e) (sym first) (then_stops _ _ e (sym h))
 
-    module _ (n : ℕ) (g : w ≡ Count n) where
-      read_second : read_body b ≡ done n
-      read_second = sym second ∙ ap paper_count g
-
+    module _ (n : ℕ) (second : done n ≡ read_body b) where
       pub size_counts : 2 ≤ length a + length b
-      size_counts = omega (arith, (accepted a m read_first).table)
+      size_counts = omega (arith, (accepted a m (sym first)).table)
 
       goes : (z : Answer ℕ) → z ≡ within_limit max_record (length a + length b - 2) → z ≡ join_size a b
       unfolding join_size
       goes z e =
-          then_goes _ _ m z read_first
-          (then_goes _ _ n z read_second
-          (e ∙ ap (within_limit max_record) (sym (join_length a b m n (accepted a m read_first) (accepted b n read_second)))))
+          then_goes _ _ m z (sym first)
+          (then_goes _ _ n z (sym second)
+          (e ∙ ap (within_limit max_record) (sym (join_length a b m n (accepted a m (sym first)) (accepted b n (sym second))))))
 
       pub size_over : max_record < length a + length b - 2 → refused 3 ≡ join_size a b
       size_over l = goes (refused 3) (search rules)
@@ -295,11 +281,11 @@ pub ruleset put_laws = (
 )
 
 -- ---- the writer's own ends
-module _ (a b : List ℕ) (w : Wrote) (is : paper_size w ≡ join_size a b) (size : ℕ) (h : w ≡ Size size) where
+module _ (a b : List ℕ) (size : ℕ) (is : done size ≡ join_size a b) where
   pub join_ready : Joinable a b
-  join_ready = (join_was a b size (sym is ∙ ap paper_size h)).both
+  join_ready = (join_was a b size (sym is)).both
 
   pub join_sized : size ≡ length (join_of a b)
-  join_sized = (join_was a b size (sym is ∙ ap paper_size h)).is
+  join_sized = (join_was a b size (sym is)).is
 
 pub ruleset join_laws = (join_ready, join_sized)

@@ -3,50 +3,45 @@
 
 ghost use Rattle.std.specs.Prelude.{◌≡◌, length};
 ghost use Rattle.std.proofs.lemmas.List.Edits.{sets};
-ghost use Rattle.wire.specs.Answers.{paper_size, with_room, written};
+ghost use Rattle.wire.specs.Answers.{paper, with_room, written};
 ghost use Rattle.wire.specs.Folds.{joined};
 ghost use Rattle.body_sizes.specs.Bodies.{two_bytes};
 ghost use Rattle.body_join.specs.Joins.{join_of, join_size, offsets_from, raised, table_of, Raisable, Joinable};
 
 use body_read::read_body;
-use wire::{Counted, Refusal, Wrote};
+use wire::Refusal;
 use wire_read::{part_of, u16_at};
 use wire_write::{put_bytes, put_u16};
 
 // How many bytes the joined body takes: each body has a count, and one count stays.
-fn join_size(first: &[u8], second: &[u8]) -> Wrote
-    ensures { paper_size result ≡ join_size first.now second.now }
+#[tactic(auto, using(crate::proofs::JoinLaws::size_laws))]
+fn join_size(first: &[u8], second: &[u8]) -> Result<usize, Refusal>
+    ensures { paper result ≡ join_size first.now second.now }
 {
-    match read_body(first) {
-        Counted::Refused(e) => Wrote::Refused(e),
-        Counted::Count(_m) => match read_body(second) {
-            Counted::Refused(e) => Wrote::Refused(e),
-            Counted::Count(_n) => {
-                let total = first.len() + second.len() - 2;
-                if connection::MAX_RECORD < total {
-                    return Wrote::Refused(Refusal::Limit);
-                }
-                Wrote::Size(total)
-            }
-        },
+    read_body(first)?;
+    read_body(second)?;
+    let total = first.len() + second.len() - 2;
+    if connection::MAX_RECORD < total {
+        return Err(Refusal::Limit);
     }
+    Ok(total)
 }
 
 // Stores the n offsets of a body from a place on, each moved on by so many bytes.
+#[tactic(auto, using(crate::proofs::JoinLaws::raising_laws))]
 fn put_raised(s: &[u8], n: usize, by: usize, out: &mut [u8], at: usize)
     requires { Raisable s.now n by at }
     ensures { out.new ≡ sets out.old at (joined two_bytes (raised by (offsets_from n s.now 0))) }
 {
-    let mut i = 0;
-    while i < n {
+    for i in 0..n {
         let offset = u16_at(s, 2 + 2 * i) as usize + by;
         put_u16(out, at + 2 * i, offset as u16);
-        i += 1;
     }
 }
 
 // The count and the offsets of two bodies that were judged. The second's offsets come behind the first's, so the first's items move on by those, and
 // the second's by all that the first has but for its count.
+#[tactic(auto, using(crate::proofs::JoinLaws::put_laws))]
 fn put_table(first: &[u8], second: &[u8], out: &mut [u8])
     requires { Joinable first.now second.now }
     ensures { out.new ≡ sets out.old 0 (joined two_bytes (table_of first.now second.now)) }
@@ -59,6 +54,7 @@ fn put_table(first: &[u8], second: &[u8], out: &mut [u8])
 }
 
 // Two bodies that were judged: the table, and the items of both.
+#[tactic(auto, using(crate::proofs::JoinLaws::put_laws))]
 fn put_joined(first: &[u8], second: &[u8], out: &mut [u8])
     requires { Joinable first.now second.now }
     ensures { out.new ≡ sets out.old 0 (join_of first.now second.now) }
@@ -75,18 +71,16 @@ fn put_joined(first: &[u8], second: &[u8], out: &mut [u8])
 }
 
 // Writes the body of the first's items and then the second's at the front of out, or changes nothing.
-pub fn join_bodies(first: &[u8], second: &[u8], out: &mut [u8]) -> Wrote
-    ensures answer { paper_size result ≡ with_room (join_size first.now second.now) (length out.old) }
+#[tactic(auto, using(wire::proofs::Answers::writer_laws, crate::proofs::JoinLaws::join_laws))]
+pub fn join_bodies(first: &[u8], second: &[u8], out: &mut [u8]) -> Result<usize, Refusal>
+    ensures answer { paper result ≡ with_room (join_size first.now second.now) (length out.old) }
     ensures bytes { out.new ≡ written (with_room (join_size first.now second.now) (length out.old)) (join_of first.now second.now) out.old }
 {
-    match join_size(first, second) {
-        Wrote::Refused(e) => Wrote::Refused(e),
-        Wrote::Size(size) => {
-            if out.len() < size {
-                return Wrote::Refused(Refusal::Room);
-            }
-            put_joined(first, second, out);
-            Wrote::Size(size)
-        }
+    // size, room, store, as every writer: one for all would take the store as a closure with its need, for no line less
+    let size = join_size(first, second)?;
+    if out.len() < size {
+        return Err(Refusal::Room);
     }
+    put_joined(first, second, out);
+    Ok(size)
 }

@@ -2,8 +2,8 @@
 -- Assumes nothing.
 use mathlib.Core.Path.{refl}
 use Rattle.exact.specs.Exact.{Exact, exact, says, same}
-use Rattle.wire.proofs.Answers.{count_one}
+use Rattle.wire.proofs.Answers.{answer_one}
 use Rattle.body_read.specs.contracts.read_body
 
 pub read_body_exact : Exact read_body.ended (λ _ _. read_body.clauses)
-read_body_exact = exact (λ w κs a. (tt, λ m. tt)) (λ w κs a g z e. search says) (λ t. (count_one t.z t.z' (same t.said t.said'), refl))
+read_body_exact = exact (λ w κs a. (tt, λ m. tt)) (λ w κs a g z e. search says) (λ t. (answer_one t.z t.z' (same t.said t.said'), refl))

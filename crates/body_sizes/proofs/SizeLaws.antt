@@ -8,11 +8,7 @@ use lib.ListN.{length, get_or, drop, drop_of_length-le}
 use lib.Seq.{drop-cons}
 use mir.Val.{Fits}
 use mir.Syntax.{w64}
-use Rattle.wire.specs.Answers.{Answer, done, refused, paper_size, under, over, judged, plus, within_limit}
-use Rattle.wire.specs.Refusals.{number}
-use Rattle.wire.specs.declared.Refusal.{Refusal}
-use Rattle.wire.specs.declared.Wrote.{Wrote}
-use Rattle.wire.specs.declared.Wrote.TheVariants.{Size, Refused}
+use Rattle.wire.specs.Answers.{Answer, done, refused, under, over, judged, plus, within_limit}
 use Rattle.wire.proofs.Rules.{rules, done_same, all_keep, all_were, then_stops, then_goes, Went, then_were, within_was}
 use Rattle.wire.proofs.Answers.{Parts, plus_parts, plus_none, plus_assoc}
 use Rattle.connection.specs.Limits.{max_record}
@@ -95,19 +91,15 @@ sized lent (m ∷ ns) n h =
     record { sum = omega (arith, p.sum, r.sum); inside = omega (arith, p.sum, r.inside); many = omega (arith, p.sum, r.many) }
 
 -- ---- the ends of the sizer
-module _ (lent : ℕ) (ns : List ℕ) (w : Wrote) (is : paper_size w ≡ items_size lent ns) where
-  pub size_refused : (e : Refusal) → w ≡ Refused e → refused (number e) ≡ body_size lent ns
+module _ (lent : ℕ) (ns : List ℕ) where
+  pub size_refused : (k : ℕ) → refused k ≡ items_size lent ns → refused k ≡ body_size lent ns
   unfolding body_size
-  size_refused e h =
-      then_stops _ _ (number e) (sym is ∙ ap paper_size h)
+  size_refused k h = then_stops _ _ k (sym h)
 
-  module _ (n : ℕ) (h : w ≡ Size n) where
-    found : items_size lent ns ≡ done n
-    found = sym is ∙ ap paper_size h
-
+  module _ (n : ℕ) (found : done n ≡ items_size lent ns) where
     goes : (z : Answer ℕ) → z ≡ within_limit max_record (table_end (length ns) + n) → z ≡ body_size lent ns
     unfolding body_size
-    goes z e = then_goes _ _ n z found e
+    goes z e = then_goes _ _ n z (sym found) e
 
     pub size_over : max_record < n → refused 3 ≡ body_size lent ns
     size_over l = let k : max_record < table_end (length ns) + n = omega arith in goes (refused 3) (search rules)
@@ -120,7 +112,7 @@ module _ (lent : ℕ) (ns : List ℕ) (w : Wrote) (is : paper_size w ≡ items_s
 
     module _ (l : n ≤ max_record) where
       few : length ns ≤ max_record
-      few = omega (arith, (sized lent ns n found).many)
+      few = omega (arith, (sized lent ns n (sym found)).many)
 
       pub size_fits : Fits w64 (2 + 2 * length ns + n)
       size_fits = record { fits = omega (arith, few) }

@@ -2,9 +2,9 @@
 use Prim.Native.Nat.{ℕ}
 use mathlib.Core.Path.{◌≡◌, refl}
 use mathlib.Core.List.{List, [], ◌∷◌}
+use Rattle.std.specs.Prelude.{None}
 use Rattle.wire.specs.Numbers.{value_of}
 use Rattle.wire.specs.Answers.{done, refused, breaks, judged}
-use Rattle.statuses.specs.declared.ExtendedStatus.TheVariants.{Absent}
 use Rattle.reply_header.specs.Headers.{read_header}
 use Rattle.body_read.specs.Reads.{read_body}
 use Rattle.body_items.specs.Items.{body_item}
@@ -20,6 +20,6 @@ unfolding body_item read_body read_header judged breaks value_of
 card_two_words_first = refl
 
 pub card_two_words_second : tells two_words (body_reply two_words 1)
-    ≡ done (record { service = 0x8E; status = record { general = 0; extended = Absent }; bytes = 0 ∷ 0 ∷ 0x48 ∷ 0x42 ∷ [] })
+    ≡ done (record { service = 0x8E; status = record { general = 0; extended = None }; bytes = 0 ∷ 0 ∷ 0x48 ∷ 0x42 ∷ [] })
 unfolding body_item read_body read_header judged breaks value_of
 card_two_words_second = refl

@@ -1,23 +1,16 @@
 -- Laws of answers as numbers, and of filled runs. Assumes nothing.
-use Prim.Native.Nat.{ℕ, ◌+◌, ◌-◌, ◌≤◌, ◌<◌}
+use Prim.Native.Nat.{ℕ, ◌≤◌, ◌<◌}
 use mathlib.Core.Path.{◌≡◌, refl, sym, ap, ◌∙◌, subst}
-use mathlib.Core.List.{List}
-use native.Mathlib.Nat.{zero-add}
+use mathlib.Core.List.{List, ◌++◌}
 use native.Mathlib.Omega.{arith}
-use lib.ListN.{length, get_or, set}
-use lib.Seq.{sets}
-use mir.Val.{Fits}
-use mir.Syntax.{w64}
+use lib.ListN.{length, drop}
+use Rattle.std.specs.Prelude.{Result, Ok, Err}
 use Rattle.wire.specs.Refusals.{number}
-use Rattle.wire.specs.Answers.{Answer, done, refused, paper_size, paper_count, with_room, written}
-use Rattle.wire.specs.declared.Wrote.{Wrote}
-use Rattle.wire.specs.declared.Wrote.TheVariants.{Size, Refused as NotWritten}
-use Rattle.wire.specs.declared.Counted.{Counted}
-use Rattle.wire.specs.declared.Counted.TheVariants.{Count, Refused as NotCounted}
+use Rattle.wire.specs.Parts.{overlay}
+use Rattle.wire.specs.Answers.{Answer, done, refused, paper, with_room, written}
 use Rattle.wire.proofs.Rules.{rules}
 use Rattle.wire.proofs.Answers.{room_kept, room_was}
-use Rattle.wire.proofs.Stores.{Copying, copy_first, copy_more, copy_ends, run_whole, sets_overlay}
-use Rattle.c_answers.specs.Codes.{two_to64, two_to63, code, run_answer, run_left, run_of, Told}
+use Rattle.c_answers.specs.Codes.{two_to63, code, run_answer, run_left, run_of, Told}
 use Rattle.wire.specs.declared.Refusal.{Refusal}
 use Rattle.wire.specs.declared.Refusal.TheVariants.{Short, Room, Limit, Code, Form, Words, Offset, Leftover, Depth, Envelope, Outside}
 
@@ -36,24 +29,6 @@ number_known Outside = (omega arith, omega arith)
 
 -- ---- an answer as a number
 
-pub refusal_code : (e : Refusal) (n : ℕ) → n ≡ number e → two_to64 - 1 - n + 1 ≡ code (refused (number e))
-refusal_code e n h = omega (arith, (number_known e).0, (number_known e).1)
-
-pub refusal_fits : (e : Refusal) (n : ℕ) → n ≡ number e → Fits w64 (two_to64 - 1 - n + 1)
-refusal_fits e n h = record { fits = omega (arith, (number_known e).0, (number_known e).1) }
-
-pub size_done : (w : Wrote) (n : ℕ) → w ≡ Size n → n ≡ code (paper_size w)
-size_done w n h = sym (ap (λ (x : Wrote). code (paper_size x)) h)
-
-pub size_refused : (w : Wrote) (e : Refusal) (r : ℕ) → w ≡ NotWritten e → r ≡ code (refused (number e)) → r ≡ code (paper_size w)
-size_refused w e r h f = f ∙ sym (ap (λ (x : Wrote). code (paper_size x)) h)
-
-pub count_done : (w : Counted) (n : ℕ) → w ≡ Count n → n ≡ code (paper_count w)
-count_done w n h = sym (ap (λ (x : Counted). code (paper_count x)) h)
-
-pub count_refused : (w : Counted) (e : Refusal) (r : ℕ) → w ≡ NotCounted e → r ≡ code (refused (number e)) → r ≡ code (paper_count w)
-count_refused w e r h f = f ∙ sym (ap (λ (x : Counted). code (paper_count x)) h)
-
 -- what another function answers, handed on as a number
 pub code_told : (x y : Answer ℕ) (r : ℕ) → r ≡ code x → x ≡ y → r ≡ code y
 code_told x y r e h = e ∙ ap code h
@@ -62,15 +37,6 @@ pub code_done : (n : ℕ) (y : Answer ℕ) → done n ≡ y → n ≡ code y
 code_done n y h = ap code h
 
 pub ruleset told_laws = (code_told, code_done)
-
-pub ruleset answer_laws = (refusal_code, refusal_fits, size_done, size_refused, count_done, count_refused)
-
--- ---- the loop that fills a run
-pub copy_next : (old src : List ℕ) (n : ℕ) (out : List ℕ) (i : ℕ) → Copying old 0 src n out i → i < n → n ≤ length src
-    → Copying old 0 src n (set out i (get_or src i 0)) (i + 1)
-copy_next old src n out i w h g = subst (λ (k : ℕ). Copying old 0 src n (set out k (get_or src i 0)) (i + 1)) (zero-add i) (copy_more old 0 src n out i w h g)
-
-pub ruleset front_laws = (copy_next, copy_first, copy_ends, run_whole)
 
 -- ---- a run is filled where it has room
 module _ (src old : List ℕ) where
@@ -83,10 +49,10 @@ module _ (src old : List ℕ) where
   pub fill_size : length src ≤ length old → length src ≡ code (with_room (done (length src)) (length old))
   fill_size l = ap code (sym (room_kept (done (length src)) (length old) (length src) refl l))
 
-  pub fill_stored : (new : List ℕ) → length src ≤ length old → new ≡ sets old 0 src → new ≡ written (with_room (done (length src)) (length old)) src old
-  fill_stored new l e =
-      e
-      ∙ sets_overlay old src l
+  pub fill_stored : (front : List ℕ) → length src ≤ length old → front ≡ src → front ++ drop (length src) old ≡ written (with_room (done (length src)) (length old)) src old
+  unfolding overlay
+  fill_stored front l e =
+      ap (λ (z : List ℕ). z ++ drop (length src) old) e
       ∙ ap (λ (x : Answer ℕ). written x src old) (sym (room_kept (done (length src)) (length old) (length src) refl l))
 
 pub ruleset fill_laws = (fill_full, fill_kept, fill_size, fill_stored)
@@ -136,15 +102,15 @@ told_apart (refused k) (done m) a b h = absurd (omega (arith, a.0, a.1))
 told_apart (refused j) (refused k) a b h = ap refused (omega (arith, a.0, a.1, b.0, b.1))
 
 -- what a writer answers is told apart, as long as it was lent less than half of all that can be numbered
-pub wrote_told : (w : Wrote) (y : Answer ℕ) (room : ℕ) → paper_size w ≡ with_room y room → room < two_to63 → Told (with_room y room)
-wrote_told (Size n) y room h l =
+pub wrote_told : (w : Result ℕ Refusal) (y : Answer ℕ) (room : ℕ) → paper w ≡ with_room y room → room < two_to63 → Told (with_room y room)
+wrote_told (Ok n) y room h l =
     let f : (y ≡ done n) × (n ≤ room) = room_was y room n (sym h) in
     let g : n ≤ room = f.1 in
     let t : n < two_to63 = omega arith in
     subst Told h t
-wrote_told (NotWritten e) y room h l = subst Told h (number_known e)
+wrote_told (Err e) y room h l = subst Told h (number_known e)
 
 -- so is a count below that half
-pub counted_told : (c : Counted) → ((n : ℕ) → c ≡ Count n → n < two_to63) → Told (paper_count c)
-counted_told (Count n) f = f n refl
-counted_told (NotCounted e) f = number_known e
+pub counted_told : (c : Result ℕ Refusal) → ((n : ℕ) → c ≡ Ok n → n < two_to63) → Told (paper c)
+counted_told (Ok n) f = f n refl
+counted_told (Err e) f = number_known e

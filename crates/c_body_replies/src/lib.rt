@@ -2,7 +2,7 @@
 #![tactic(auto)]
 
 ghost use Rattle.std.specs.Prelude.{◌≡◌};
-ghost use Rattle.reply_header.specs.Headers.{paper_reply};
+ghost use Rattle.wire.specs.Answers.{paper};
 ghost use Rattle.body_replies.specs.Replies.{walk_reply, body_reply};
 ghost use Rattle.c_answers.specs.Codes.{code, run_answer, run_left};
 ghost use Rattle.c_reply_numbers.specs.Numbers.{reply_run};
@@ -10,16 +10,17 @@ ghost use Rattle.c_reply_numbers.specs.Numbers.{reply_run};
 use body_replies::{reply_item, walk_reply};
 use c_answers::{fill, refusal_answer};
 use c_reply_numbers::reply_numbers;
-use reply_header::ReplyRead;
+use reply_header::MessageReply;
+use wire::Refusal;
 
 // What was read of a reply's header, as its six numbers.
-fn fill_reply(w: ReplyRead, fields: &mut [usize]) -> usize
-    ensures answer { result ≡ code (run_answer (reply_run (paper_reply w)) fields.old) }
-    ensures numbers { fields.new ≡ run_left (reply_run (paper_reply w)) fields.old }
+fn fill_reply(w: Result<MessageReply, Refusal>, fields: &mut [usize]) -> usize
+    ensures answer { result ≡ code (run_answer (reply_run (paper w)) fields.old) }
+    ensures numbers { fields.new ≡ run_left (reply_run (paper w)) fields.old }
 {
     match w {
-        ReplyRead::Refused(e) => refusal_answer(e),
-        ReplyRead::Found(m) => fill(fields, &reply_numbers(m)),
+        Err(e) => refusal_answer(e), // C interface: one number
+        Ok(m) => fill(fields, &reply_numbers(m)),
     }
 }
 

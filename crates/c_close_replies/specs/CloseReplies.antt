@@ -3,7 +3,9 @@ use Rattle.std.specs.Prelude.{ℕ, List, [], ◌∷◌, Bool}
 use Rattle.wire.specs.Answers.{Answer}
 use Rattle.connection.specs.declared.ForwardCloseSuccess.{ForwardCloseSuccess}
 use Rattle.reply_header.specs.declared.MessageReply.{MessageReply}
-use Rattle.reply_read.specs.Reads.{Reply, succeeded, failed, read_close_reply}
+use Rattle.reply_read.specs.Reads.{read_close_reply}
+use Rattle.reply_read.specs.declared.Reply.{Reply}
+use Rattle.reply_read.specs.declared.Reply.TheVariants.{Success as succeeded, Failure as failed}
 use Rattle.c_answers.specs.Codes.{run_of}
 use Rattle.c_failure_numbers.specs.Failures.{connection_numbers, failure_numbers}
 

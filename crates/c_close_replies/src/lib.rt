@@ -10,27 +10,23 @@ use c_failure_numbers::failure_numbers;
 use c_reply_numbers::reply_numbers;
 use connection::ForwardCloseSuccess;
 use reply_header::MessageReply;
-use reply_read::{CloseReplyRead, read_forward_close_reply};
+use reply_read::{Reply, read_forward_close_reply};
 
 // One that was served, as numbers.
 fn served_numbers(m: MessageReply, c: ForwardCloseSuccess, start: usize, len: usize) -> [usize; 12]
     ensures { result ≡ close_success_numbers m c start len }
 {
-    let h = reply_numbers(m);
-    [
-        h[0],
-        h[1],
-        h[2],
-        h[3],
-        h[4],
-        h[5],
+    let mut numbers = [0; 12];
+    numbers[..6].copy_from_slice(&reply_numbers(m));
+    numbers[6..].copy_from_slice(&[
         1,
         c.connection_serial_number as usize,
         c.originator_vendor_id as usize,
         c.originator_serial_number as usize,
         start,
         len,
-    ]
+    ]);
+    numbers
 }
 
 // Reads a Forward Close reply; the caller says whether a failure is a routing error.
@@ -44,11 +40,8 @@ pub extern "C" fn bark_read_forward_close_reply(
     ensures numbers { fields.new ≡ run_left (close_reply_run routing s.now) fields.old }
 {
     match read_forward_close_reply(routing, s) {
-        CloseReplyRead::Refused(e) => refusal_answer(e),
-        CloseReplyRead::Failure(m, f) => fill(fields, &failure_numbers(m, f)),
-        CloseReplyRead::Success(m, c, start, len) => fill(
-            fields,
-            &served_numbers(m, c, start, len),
-        ),
+        Err(e) => refusal_answer(e), // C interface: one number
+        Ok(Reply::Failure(m, f)) => fill(fields, &failure_numbers(m, f)),
+        Ok(Reply::Success(m, c, start, len)) => fill(fields, &served_numbers(m, c, start, len)),
     }
 }

@@ -5,29 +5,13 @@ ghost use Rattle.std.specs.Prelude.{◌≡◌, length};
 ghost use Rattle.wire.specs.Answers.{with_room, written};
 ghost use Rattle.connection_words.specs.Requests.{close_bytes};
 ghost use Rattle.close_over.specs.Over.{close_over_size};
-ghost use Rattle.close_read.specs.Reads.{closed};
 ghost use Rattle.c_answers.specs.Codes.{code, run_answer, run_left};
-ghost use Rattle.c_closes.specs.Closes.{closed_numbers, close_run, close_of};
+ghost use Rattle.c_closes.specs.Closes.{close_run, close_of};
 
 use c_answers::{fill, refusal_answer, size_answer};
 use close_over::write_forward_close_over;
-use close_read::{CloseRead, read_forward_close};
+use close_read::read_forward_close;
 use connection::ForwardCloseRequest;
-
-// A Forward Close as C has it.
-fn close_numbers(c: ForwardCloseRequest, start: usize, len: usize) -> [usize; 7]
-    ensures { result ≡ closed_numbers (closed c start len) }
-{
-    [
-        c.priority_time_ticks as usize,
-        c.timeout_ticks as usize,
-        c.connection_serial_number as usize,
-        c.originator_vendor_id as usize,
-        c.originator_serial_number as usize,
-        start,
-        len,
-    ]
-}
 
 // Reads a Forward Close.
 #[unsafe(no_mangle)]
@@ -36,10 +20,18 @@ pub extern "C" fn bark_read_forward_close(s: &[u8], fields: &mut [usize]) -> usi
     ensures numbers { fields.new ≡ run_left (close_run s.now) fields.old }
 {
     match read_forward_close(s) {
-        CloseRead::Refused(e) => refusal_answer(e),
-        CloseRead::Found(c, start, len) => {
-            let n = close_numbers(c, start, len);
-            fill(fields, &n)
+        Err(e) => refusal_answer(e), // C interface: one number
+        Ok(r) => {
+            let numbers = [
+                r.request.priority_time_ticks as usize,
+                r.request.timeout_ticks as usize,
+                r.request.connection_serial_number as usize,
+                r.request.originator_vendor_id as usize,
+                r.request.originator_serial_number as usize,
+                r.path_start,
+                r.path_len,
+            ];
+            fill(fields, &numbers)
         }
     }
 }

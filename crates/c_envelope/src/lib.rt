@@ -15,11 +15,10 @@ pub extern "C" fn bark_read_envelope(s: &[u8], fields: &mut [usize]) -> usize
     ensures numbers { fields.new ≡ run_left (envelope_run s.now) fields.old }
 {
     match read_envelope(s) {
-        EnvelopeRead::Refused(e) => refusal_answer(e),
-        EnvelopeRead::Unconnected(start, len) => fill(fields, &[0, 0, start, len]),
-        EnvelopeRead::Connected(count, start, len) => {
-            let wide = count as usize;
-            fill(fields, &[1, wide, start, len])
+        Ok(EnvelopeRead::Unconnected(start, len)) => fill(fields, &[0, 0, start, len]),
+        Ok(EnvelopeRead::Connected(count, start, len)) => {
+            fill(fields, &[1, usize::from(count), start, len])
         }
+        Err(e) => refusal_answer(e), // C interface: one number
     }
 }

@@ -1,9 +1,8 @@
 -- What the functions for C read of a reply to a Forward Open or a Forward Close, as a run of numbers at the places of include/barkcushion.h: what the replies
 -- have alike, and all of a failure. Assumes nothing: these are definitions.
 use Rattle.std.specs.Prelude.{ℕ, List, [], ◌∷◌, ◌++◌}
+use Rattle.std.specs.Prelude.{Option, Some, None}
 use Rattle.connection.specs.declared.ForwardRequestFail.{ForwardRequestFail}
-use Rattle.connection.specs.declared.RemainingPathSize.{RemainingPathSize}
-use Rattle.connection.specs.declared.RemainingPathSize.TheVariants.{Absent, Words}
 use Rattle.reply_header.specs.declared.MessageReply.{MessageReply}
 use Rattle.c_reply_numbers.specs.Numbers.{reply_numbers}
 
@@ -13,13 +12,13 @@ connection_numbers m served serial vendor originator rest = reply_numbers m ++ (
 
 -- whether the size of the path that was left is told, and it, or 0
 
-abbrev pub has_remaining : RemainingPathSize → ℕ
-has_remaining Absent = 0
-has_remaining (Words w) = 1
+abbrev pub has_remaining : Option ℕ → ℕ
+has_remaining None = 0
+has_remaining (Some w) = 1
 
-abbrev pub remaining_of : RemainingPathSize → ℕ
-remaining_of Absent = 0
-remaining_of (Words w) = w
+abbrev pub remaining_of : Option ℕ → ℕ
+remaining_of None = 0
+remaining_of (Some w) = w
 
 abbrev pub failure_numbers : MessageReply → ForwardRequestFail → List ℕ
 failure_numbers m f =

@@ -7,22 +7,12 @@ ghost use Rattle.failure_encode.specs.Failures.{failure_bytes};
 ghost use Rattle.failure_encode.specs.Sizes.{failure_size};
 ghost use Rattle.c_answers.specs.Codes.{code};
 ghost use Rattle.c_statuses.specs.Statuses.{status_of};
-ghost use Rattle.c_failure_writes.specs.Failures.{remaining_from, fail_of};
+ghost use Rattle.c_failure_writes.specs.Failures.{fail_of};
 
 use c_answers::size_answer;
 use c_statuses::status_of;
-use connection::{ForwardRequestFail, RemainingPathSize};
+use connection::ForwardRequestFail;
 use failure_encode::write_forward_failure;
-
-// The size of the path that was left, if there is one.
-fn remaining_from(has_remaining: bool, remaining: u8) -> RemainingPathSize
-    ensures { result ≡ remaining_from has_remaining remaining }
-{
-    if has_remaining {
-        return RemainingPathSize::Words(remaining);
-    }
-    RemainingPathSize::Absent
-}
 
 // Writes the reply to either that failed.
 #[unsafe(no_mangle)]
@@ -42,12 +32,11 @@ pub extern "C" fn bark_write_forward_failure(
     ensures bytes { out.new ≡ written (with_room (failure_size (status_of general has_word word) (fail_of connection_serial_number vendor_id originator_serial_number has_remaining remaining)) (length out.old)) (failure_bytes service (status_of general has_word word) (fail_of connection_serial_number vendor_id originator_serial_number has_remaining remaining)) out.old }
 {
     let status = status_of(general, has_word, word);
-    let remaining_path_size = remaining_from(has_remaining, remaining);
     let f = ForwardRequestFail {
         connection_serial_number,
         originator_vendor_id: vendor_id,
         originator_serial_number,
-        remaining_path_size,
+        remaining_path_size: has_remaining.then_some(remaining),
     };
     size_answer(write_forward_failure(service, status, f, out))
 }

@@ -6,20 +6,14 @@ ghost use Rattle.c_answers.specs.Codes.{code};
 ghost use Rattle.c_frames.specs.Scraps.{state_numbers, taken_answer, numbers_after, bytes_after, frame_after};
 
 use c_answers::refusal_answer;
-use frames::{FrameState, Took, step};
+use frames::{FrameState, step};
 use wire::Refusal;
 
 // A state as C has it.
 fn state_numbers(state: FrameState) -> [usize; 3]
     ensures { result ≡ state_numbers state }
 {
-    let held = state.held;
-    let length = state.length;
-    let refused = state.refused;
-    if refused {
-        return [held, length, 1];
-    }
-    [held, length, 0]
+    [state.held, state.length, usize::from(state.refused)]
 }
 
 // Takes a scrap, up to a frame's end.
@@ -35,9 +29,7 @@ pub extern "C" fn bark_take_scrap(
     ensures bytes { buffer.new ≡ bytes_after state.old buffer.old scrap.now }
     ensures frame { frame.new ≡ frame_after state.old buffer.old scrap.now frame.old }
 {
-    let held = state[0];
-    let length = state[1];
-    let flag = state[2];
+    let [held, length, flag] = *state;
     if 1 < flag {
         return refusal_answer(Refusal::Outside);
     }
@@ -50,17 +42,16 @@ pub extern "C" fn bark_take_scrap(
         buffer,
         scrap,
     );
-    let took = stepped.took;
     *state = state_numbers(stepped.state);
-    match took {
-        Took::All => {
+    match stepped.took {
+        Ok(None) => {
             *frame = 0;
             scrap.len()
         }
-        Took::Whole(f) => {
+        Ok(Some(f)) => {
             *frame = f.length;
             f.taken
         }
-        Took::Refused(e) => refusal_answer(e),
+        Err(e) => refusal_answer(e), // C interface: one number
     }
 }

@@ -10,7 +10,7 @@ ghost use Rattle.c_messages.specs.Fields.{message_run};
 
 use c_answers::{fill, refusal_answer, size_answer};
 use message_over::write_message_over;
-use message_read::{MessageRead, read_message};
+use message_read::read_message;
 
 // Writes a message over a path's bytes.
 #[unsafe(no_mangle)]
@@ -28,8 +28,8 @@ pub extern "C" fn bark_read_message(s: &[u8], fields: &mut [usize]) -> usize
     ensures numbers { fields.new ≡ run_left (message_run s.now) fields.old }
 {
     match read_message(s) {
-        MessageRead::Refused(e) => refusal_answer(e),
-        MessageRead::Found(m) => {
+        Err(e) => refusal_answer(e), // C interface: one number
+        Ok(m) => {
             let service = m.service_code as usize;
             fill(
                 fields,

@@ -10,20 +10,15 @@ use c_failure_numbers::failure_numbers;
 use c_reply_numbers::reply_numbers;
 use connection::ForwardOpenSuccess;
 use reply_header::MessageReply;
-use reply_read::{OpenReplyRead, read_forward_open_reply};
+use reply_read::{Reply, read_forward_open_reply};
 
 // One that was served, as numbers.
 fn served_numbers(m: MessageReply, o: ForwardOpenSuccess, start: usize, len: usize) -> [usize; 16]
     ensures { result ≡ open_success_numbers m o start len }
 {
-    let h = reply_numbers(m);
-    [
-        h[0],
-        h[1],
-        h[2],
-        h[3],
-        h[4],
-        h[5],
+    let mut numbers = [0; 16];
+    numbers[..6].copy_from_slice(&reply_numbers(m));
+    numbers[6..].copy_from_slice(&[
         1,
         o.connection_serial_number as usize,
         o.originator_vendor_id as usize,
@@ -34,7 +29,8 @@ fn served_numbers(m: MessageReply, o: ForwardOpenSuccess, start: usize, len: usi
         o.t_o_api as usize,
         start,
         len,
-    ]
+    ]);
+    numbers
 }
 
 // Reads a Forward Open reply; the caller says whether a failure is a routing error.
@@ -48,8 +44,8 @@ pub extern "C" fn bark_read_forward_open_reply(
     ensures numbers { fields.new ≡ run_left (open_reply_run routing s.now) fields.old }
 {
     match read_forward_open_reply(routing, s) {
-        OpenReplyRead::Refused(e) => refusal_answer(e),
-        OpenReplyRead::Failure(m, f) => fill(fields, &failure_numbers(m, f)),
-        OpenReplyRead::Success(m, o, start, len) => fill(fields, &served_numbers(m, o, start, len)),
+        Err(e) => refusal_answer(e), // C interface: one number
+        Ok(Reply::Failure(m, f)) => fill(fields, &failure_numbers(m, f)),
+        Ok(Reply::Success(m, o, start, len)) => fill(fields, &served_numbers(m, o, start, len)),
     }
 }

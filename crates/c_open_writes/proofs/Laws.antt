@@ -4,13 +4,11 @@ use mathlib.Core.Path.{◌≡◌, refl, sym, ap, ◌∙◌}
 use mathlib.Core.Bool.{Bool}
 use mathlib.Core.List.{List, [], ◌∷◌}
 use lib.ListN.{length}
+use Rattle.std.specs.Prelude.{Result, Ok, Err}
 use Rattle.wire.specs.Refusals.{number}
-use Rattle.wire.specs.Answers.{Answer, done, refused, paper_size, paper_count, over, and_then, with_room, written}
+use Rattle.wire.specs.Answers.{Answer, done, refused, paper, over, and_then, with_room, written}
 use Rattle.wire.specs.declared.Refusal.{Refusal}
-use Rattle.wire.specs.declared.Wrote.{Wrote}
-use Rattle.wire.specs.declared.Counted.{Counted}
-use Rattle.wire.specs.declared.Counted.TheVariants.{Count, Refused as NotCounted}
-use Rattle.wire.proofs.Rules.{all_keep, then_stops, then_goes, then_done, Went, then_were}
+use Rattle.wire.proofs.Rules.{all_keep, then_stops, then_done, Went, then_were}
 use Rattle.connection.specs.Limits.{size_limit}
 use Rattle.connection.specs.declared.ConnectionParameters.{ConnectionParameters}
 use Rattle.connection.specs.declared.OpenOptions.{OpenOptions}
@@ -18,52 +16,16 @@ use Rattle.connection.specs.declared.Direction.{Direction}
 use Rattle.connection.specs.declared.TriggerType.{TriggerType}
 use Rattle.connection.specs.declared.TransportClass.{TransportClass}
 use Rattle.connection_words.specs.Codes.{direction_of, trigger_of, class_of}
-use Rattle.connection_words.specs.Fields.{word_of, parameter_word, read_parameters, paper_parameters, Transport, transport, read_transport, paper_transport}
+use Rattle.connection_words.specs.Fields.{word_of, parameter_word, read_parameters, Transport, transport, read_transport}
 use Rattle.connection_words.specs.Requests.{open_bytes}
-use Rattle.connection_words.specs.declared.ParametersRead.{ParametersRead}
-use Rattle.connection_words.specs.declared.ParametersRead.TheVariants.{Found as FoundParameters, Refused as NoParameters}
-use Rattle.connection_words.specs.declared.TransportRead.{TransportRead}
-use Rattle.connection_words.specs.declared.TransportRead.TheVariants.{Found as FoundTransport, Refused as NoTransport}
 use Rattle.connection_words.proofs.Words.{parameters_were, parameters_written_of_read, transport_were}
 use Rattle.open_sizes.specs.Sizes.{open_base}
 use Rattle.open_encode.specs.Over.{open_after, open_over_size}
 use Rattle.route_written.specs.Written.{written_route}
 use Rattle.route_written.proofs.WrittenLaws.{over_stops, over_goes}
 use Rattle.c_answers.specs.Codes.{code}
-use Rattle.c_open_writes.specs.Writes.{OpenWords, open_words, read_words, paper_words, open_given, options_from, word_parts, options_of}
+use Rattle.c_open_writes.specs.Writes.{open_words, read_words, paper_words, open_given, options_from, word_parts, options_of}
 use Rattle.c_open_writes.specs.declared.Words.{Words}
-use Rattle.c_open_writes.specs.declared.Words.TheVariants.{Found, Refused as NoWords}
-
--- ---- the words of a Forward Open
-module _ (large : Bool) (x y b : ℕ) (v : ParametersRead) (one : paper_parameters v ≡ read_parameters large x) where
-  after_first : ConnectionParameters → Answer OpenWords
-  after_first p = and_then (read_parameters large y) (λ q. and_then (read_transport b) (λ t. done (open_words p q t)))
-
-  pub words_first : (e : Refusal) → v ≡ NoParameters e → refused (number e) ≡ read_words large x y b
-  unfolding read_words
-  words_first e h = then_stops (read_parameters large x) _ (number e) (sym one ∙ ap paper_parameters h)
-
-  module _ (p : ConnectionParameters) (f : v ≡ FoundParameters p) (w : ParametersRead) (two : paper_parameters w ≡ read_parameters large y) where
-    second : {z : Answer OpenWords} → z ≡ after_first p → z ≡ read_words large x y b
-    unfolding read_words after_first
-    second {z} e = then_goes (read_parameters large x) after_first p z (sym one ∙ ap paper_parameters f) e
-
-    pub words_second : (e : Refusal) → w ≡ NoParameters e → refused (number e) ≡ read_words large x y b
-    unfolding after_first
-    words_second e h = second (then_stops (read_parameters large y) _ (number e) (sym two ∙ ap paper_parameters h))
-
-    module _ (q : ConnectionParameters) (g : w ≡ FoundParameters q) (u : TransportRead) (three : paper_transport u ≡ read_transport b) where
-      third : {z : Answer OpenWords} → z ≡ and_then (read_transport b) (λ t. done (open_words p q t)) → z ≡ read_words large x y b
-      unfolding after_first
-      third {z} e = second (then_goes (read_parameters large y) (λ k. and_then (read_transport b) (λ t. done (open_words p k t))) q z (sym two ∙ ap paper_parameters g) e)
-
-      pub words_third : (e : Refusal) → u ≡ NoTransport e → refused (number e) ≡ read_words large x y b
-      words_third e h = third (then_stops (read_transport b) _ (number e) (sym three ∙ ap paper_transport h))
-
-      pub words_are : (d : Direction) (t : TriggerType) (c : TransportClass) → u ≡ FoundTransport d t c → done (open_words p q (transport d t c)) ≡ read_words large x y b
-      words_are d t c h = third (then_goes (read_transport b) (λ t. done (open_words p q t)) (transport d t c) (done (open_words p q (transport d t c))) (sym three ∙ ap paper_transport h) refl)
-
-pub ruleset words_laws = (words_first, words_second, words_third, words_are)
 
 -- ---- backwards: what words that were read hold
 
@@ -95,12 +57,12 @@ words_were large x y b p q t h =
     record { first = u.is ∙ ap done f; second = v.is ∙ ap done g; third = w.is ∙ ap done k }
 
 -- ---- a Forward Open whose words are refused
-module _ (path : List ℕ) (large : Bool) (x y b : ℕ) (z : Words) (is : paper_words z ≡ read_words large x y b) (v : Counted) (of : paper_count v ≡ written_route path) where
-  given_path : (e : Refusal) → v ≡ NotCounted e → open_given path large x y b ≡ refused (number e)
+module _ (path : List ℕ) (large : Bool) (x y b : ℕ) (z : Result Words Refusal) (is : paper_words z ≡ read_words large x y b) (v : Result ℕ Refusal) (of : paper v ≡ written_route path) where
+  given_path : (e : Refusal) → v ≡ Err e → open_given path large x y b ≡ refused (number e)
   unfolding open_given
   given_path e h = sym (over_stops path v of _ e h)
 
-  given_words : (n : ℕ) (e : Refusal) → v ≡ Count n → z ≡ NoWords e → open_given path large x y b ≡ refused (number e)
+  given_words : (n : ℕ) (e : Refusal) → v ≡ Ok n → z ≡ Err e → open_given path large x y b ≡ refused (number e)
   unfolding open_given
   given_words n e h g =
       sym
@@ -114,16 +76,16 @@ module _ (path : List ℕ) (large : Bool) (x y b : ℕ) (z : Words) (is : paper_
     kept : (bytes old : List ℕ) → old ≡ written (with_room (open_given path large x y b) (length old)) bytes old
     kept bytes old = sym (ap (λ (a : Answer ℕ). written (with_room a (length old)) bytes old) stops)
 
-  pub path_told : (e : Refusal) (r room : ℕ) → v ≡ NotCounted e → r ≡ code (refused (number e)) → r ≡ code (with_room (open_given path large x y b) room)
+  pub path_told : (e : Refusal) (r room : ℕ) → v ≡ Err e → r ≡ code (refused (number e)) → r ≡ code (with_room (open_given path large x y b) room)
   path_told e r room h = told e (given_path e h) r room
 
-  pub path_kept : (e : Refusal) (bytes old : List ℕ) → v ≡ NotCounted e → old ≡ written (with_room (open_given path large x y b) (length old)) bytes old
+  pub path_kept : (e : Refusal) (bytes old : List ℕ) → v ≡ Err e → old ≡ written (with_room (open_given path large x y b) (length old)) bytes old
   path_kept e bytes old h = kept e (given_path e h) bytes old
 
-  pub words_told : (n : ℕ) (e : Refusal) (r room : ℕ) → v ≡ Count n → z ≡ NoWords e → r ≡ code (refused (number e)) → r ≡ code (with_room (open_given path large x y b) room)
+  pub words_told : (n : ℕ) (e : Refusal) (r room : ℕ) → v ≡ Ok n → z ≡ Err e → r ≡ code (refused (number e)) → r ≡ code (with_room (open_given path large x y b) room)
   words_told n e r room h g = told e (given_words n e h g) r room
 
-  pub words_kept : (n : ℕ) (e : Refusal) (bytes old : List ℕ) → v ≡ Count n → z ≡ NoWords e → old ≡ written (with_room (open_given path large x y b) (length old)) bytes old
+  pub words_kept : (n : ℕ) (e : Refusal) (bytes old : List ℕ) → v ≡ Ok n → z ≡ Err e → old ≡ written (with_room (open_given path large x y b) (length old)) bytes old
   words_kept n e bytes old h g = kept e (given_words n e h g) bytes old
 
 -- ---- a Forward Open whose words are good
@@ -132,8 +94,22 @@ then_same (done k) f g h = h k
 then_same (refused k) f g h = refl
 
 module _ (path : List ℕ) (large : Bool) (priority ticks i j serial vendor originator multiplier m n x y b : ℕ)
-    (p q : ConnectionParameters) (d : Direction) (t : TriggerType) (c : TransportClass)
-    (z : Words) (is : paper_words z ≡ read_words large x y b) (h : z ≡ Found p q d t c) where
+    (w : Words) (z : Result Words Refusal) (is : paper_words z ≡ read_words large x y b) (h : z ≡ Ok w) where
+  abbrev p : ConnectionParameters
+  p = w.o_t_params
+
+  abbrev q : ConnectionParameters
+  q = w.t_o_params
+
+  abbrev d : Direction
+  d = w.transport.direction
+
+  abbrev t : TriggerType
+  t = w.transport.trigger
+
+  abbrev c : TransportClass
+  c = w.transport.class
+
   abbrev made : OpenOptions
   made = options_from large priority ticks i j serial vendor originator multiplier m n p q d t c
 
@@ -168,9 +144,9 @@ module _ (path : List ℕ) (large : Bool) (priority ticks i j serial vendor orig
       then_same (written_route path) (open_after made) (λ k. and_then (read_words large x y b) (λ _. done (open_base large + k)))
       (λ k. after k ∙ sym (then_done (read_words large x y b) (λ _. done (open_base large + k)) (open_words p q (transport d t c)) good))
 
-  pub open_told : (w : Wrote) (r room : ℕ) → paper_size w ≡ with_room (open_over_size path made) room → r ≡ code (paper_size w)
+  pub open_told : (k : Result ℕ Refusal) (r room : ℕ) → paper k ≡ with_room (open_over_size path made) room → r ≡ code (paper k)
       → r ≡ code (with_room (open_given path large x y b) room)
-  open_told w r room e f = f ∙ ap code e ∙ ap (λ (a : Answer ℕ). code (with_room a room)) size_is
+  open_told k r room e f = f ∙ ap code e ∙ ap (λ (a : Answer ℕ). code (with_room a room)) size_is
 
   pub open_stored : (old new : List ℕ) → new ≡ written (with_room (open_over_size path made) (length old)) (open_bytes made path) old
       → new ≡ written (with_room (open_given path large x y b) (length old)) (open_bytes asked path) old

@@ -1,6 +1,8 @@
 -- Forward Open from arguments, for C. Its parameters, and class and trigger, are given as its words: they are read as its reader reads them, after
 -- its path is judged. Assumes nothing: these are definitions.
 use Rattle.std.specs.Prelude.{ℕ, ◌+◌, ◌/◌, ◌%◌, Bool, List}
+use Rattle.std.specs.Prelude.{Result, Ok, Err}
+use Rattle.wire.specs.declared.Refusal.{Refusal}
 use Rattle.wire.specs.Refusals.{number}
 use Rattle.wire.specs.Answers.{Answer, done, refused, and_then}
 use Rattle.connection.specs.declared.ConnectionParameters.{ConnectionParameters}
@@ -13,7 +15,6 @@ use Rattle.connection_words.specs.Fields.{unit, parameters_of, read_parameters, 
 use Rattle.open_sizes.specs.Sizes.{open_base}
 use Rattle.route_written.specs.Written.{written_route}
 use Rattle.c_open_writes.specs.declared.Words.{Words}
-use Rattle.c_open_writes.specs.declared.Words.TheVariants.{Found, Refused}
 
 -- what its words hold
 pub data OpenWords : Type 0 where
@@ -25,9 +26,9 @@ read_words large toTarget toOriginator b =
     and_then (read_parameters large toOriginator) (λ q.
     and_then (read_transport b) (λ t. done (open_words p q t))))
 
-abbrev pub paper_words : Words → Answer OpenWords
-paper_words (Found p q d t c) = done (open_words p q (transport d t c))
-paper_words (Refused e) = refused (number e)
+abbrev pub paper_words : Result Words Refusal → Answer OpenWords
+paper_words (Ok w) = done (open_words w.o_t_params w.t_o_params (transport w.transport.direction w.transport.trigger w.transport.class))
+paper_words (Err e) = refused (number e)
 
 -- the path's own refusal, then the words', else how many bytes there are
 unfoldable pub open_given : List ℕ → Bool → ℕ → ℕ → ℕ → Answer ℕ

@@ -9,37 +9,38 @@ ghost use Rattle.c_answers.specs.Codes.{code};
 ghost use Rattle.c_open_writes.specs.Writes.{paper_words, read_words, open_given, options_of};
 
 use c_answers::{refusal_answer, size_answer};
-use connection::{ConnectionParameters, Direction, OpenOptions, TransportClass, TriggerType};
-use connection_words::{ParametersRead, TransportRead, decode_parameters};
+use connection::{ConnectionParameters, OpenOptions};
+use connection_words::{TransportRead, decode_parameters};
 use open_encode::write_forward_open_over;
 use route_written::written_route;
 use transport_words::transport_of;
-use wire::{Counted, Refusal};
+use wire::Refusal;
 
-// What the words of a Forward Open hold, or why they hold nothing.
+// What the words of a Forward Open hold.
 #[derive(Clone, Copy)]
-enum Words {
-    Found(ConnectionParameters, ConnectionParameters, Direction, TriggerType, TransportClass),
-    Refused(Refusal),
+struct Words {
+    o_t_params: ConnectionParameters,
+    t_o_params: ConnectionParameters,
+    transport: TransportRead,
 }
 
 // What the words hold: the parameters of each direction, then class and trigger.
-fn read_words(large: bool, o_t: u32, t_o: u32, transport: u8) -> Words
+#[tactic(auto, unfolding(crate::specs::Writes::read_words))]
+fn read_words(large: bool, o_t: u32, t_o: u32, transport: u8) -> Result<Words, Refusal>
     ensures { paper_words result ≡ read_words large o_t t_o transport }
 {
-    match decode_parameters(large, o_t) {
-        ParametersRead::Refused(e) => Words::Refused(e),
-        ParametersRead::Found(p) => match decode_parameters(large, t_o) {
-            ParametersRead::Refused(e) => Words::Refused(e),
-            ParametersRead::Found(q) => match transport_of(transport) {
-                TransportRead::Refused(e) => Words::Refused(e),
-                TransportRead::Found(d, t, c) => Words::Found(p, q, d, t, c),
-            },
-        },
-    }
+    let p = decode_parameters(large, o_t)?;
+    let q = decode_parameters(large, t_o)?;
+    let t = transport_of(transport)?;
+    Ok(Words {
+        o_t_params: p,
+        t_o_params: q,
+        transport: t,
+    })
 }
 
 // Writes a Forward Open. Its path's refusal comes before its words', and the path is judged once: by the writer, where the words are good.
+#[tactic(auto, using(crate::proofs::Laws::given_laws))]
 #[unsafe(no_mangle)]
 pub extern "C" fn bark_write_forward_open(
     large_open: bool,
@@ -63,11 +64,11 @@ pub extern "C" fn bark_write_forward_open(
     ensures bytes { out.new ≡ written (with_room (open_given path.now large_open o_t_params t_o_params transport) (length out.old)) (open_bytes (options_of large_open priority_tick_time timeout_ticks o_t_connection_id t_o_connection_id connection_serial_number vendor_id originator_serial_number timeout_multiplier o_t_rpi o_t_params t_o_rpi t_o_params transport) path.now) out.old }
 {
     match read_words(large_open, o_t_params, t_o_params, transport) {
-        Words::Refused(e) => match written_route(path) {
-            Counted::Refused(first) => refusal_answer(first),
-            Counted::Count(_) => refusal_answer(e),
+        Err(e) => match written_route(path) {
+            Err(first) => refusal_answer(first), // C interface: one number
+            Ok(_) => refusal_answer(e),
         },
-        Words::Found(p, q, direction, trigger, class) => {
+        Ok(w) => {
             let o = OpenOptions {
                 o_t_connection_id,
                 t_o_connection_id,
@@ -79,11 +80,11 @@ pub extern "C" fn bark_write_forward_open(
                 o_t_rpi,
                 t_o_rpi,
                 timeout_multiplier,
-                o_t_params: p,
-                t_o_params: q,
-                transport_direction: direction,
-                transport_class: class,
-                transport_trigger: trigger,
+                o_t_params: w.o_t_params,
+                t_o_params: w.t_o_params,
+                transport_direction: w.transport.direction,
+                transport_class: w.transport.class,
+                transport_trigger: w.transport.trigger,
                 large_open,
             };
             size_answer(write_forward_open_over(o, path, out))

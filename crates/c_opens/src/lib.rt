@@ -8,8 +8,8 @@ ghost use Rattle.c_answers.specs.Codes.{code, run_answer, run_left};
 ghost use Rattle.c_opens.specs.Opens.{word_number, opened_numbers, open_run, default_numbers};
 
 use c_answers::{fill, refusal_answer};
-use connection::{ConnectionParameters, OpenOptions, default_options};
-use connection_words::{Word, encode_parameters};
+use connection::{ConnectionParameters, default_options};
+use connection_words::encode_parameters;
 use open_read::{OpenRead, read_forward_open};
 use transport_words::transport_class_trigger;
 
@@ -17,16 +17,14 @@ use transport_words::transport_class_trigger;
 fn word_number(large: bool, p: ConnectionParameters) -> usize
     ensures { result ≡ word_number large p }
 {
-    match encode_parameters(large, p) {
-        Word::Bits(w) => w as usize,
-        Word::Refused(_) => 0,
-    }
+    encode_parameters(large, p).unwrap_or(0) as usize
 }
 
 // A Forward Open as C has it, in the order of the wire.
-fn open_numbers(large: bool, o: OpenOptions, start: usize, len: usize) -> [usize; 15]
-    ensures { result ≡ opened_numbers large (opened o start len) }
+fn open_numbers(large: bool, r: OpenRead) -> [usize; 15]
+    ensures { result ≡ opened_numbers large (opened r.options r.path_start r.path_len) }
 {
+    let o = r.options;
     [
         o.priority_tick_time as usize,
         o.timeout_ticks as usize,
@@ -41,8 +39,8 @@ fn open_numbers(large: bool, o: OpenOptions, start: usize, len: usize) -> [usize
         o.t_o_rpi as usize,
         word_number(large, o.t_o_params),
         transport_class_trigger(o) as usize,
-        start,
-        len,
+        r.path_start,
+        r.path_len,
     ]
 }
 
@@ -53,15 +51,16 @@ pub extern "C" fn bark_read_forward_open(large: bool, s: &[u8], fields: &mut [us
     ensures numbers { fields.new ≡ run_left (open_run large s.now) fields.old }
 {
     match read_forward_open(large, s) {
-        OpenRead::Refused(e) => refusal_answer(e),
-        OpenRead::Found(o, start, len) => {
-            let n = open_numbers(large, o, start, len);
+        Err(e) => refusal_answer(e), // C interface: one number
+        Ok(r) => {
+            let n = open_numbers(large, r);
             fill(fields, &n)
         }
     }
 }
 
 // The default Forward Open with this serial number; it has no path yet.
+#[tactic(auto, using(crate::proofs::Laws::default_laws))]
 #[unsafe(no_mangle)]
 pub extern "C" fn bark_default_forward_open(
     large: bool,
@@ -71,7 +70,11 @@ pub extern "C" fn bark_default_forward_open(
     ensures answer { result ≡ code (run_answer (done (default_numbers large connection_serial_number)) fields.old) }
     ensures numbers { fields.new ≡ run_left (done (default_numbers large connection_serial_number)) fields.old }
 {
-    let o = default_options(connection_serial_number);
-    let n = open_numbers(large, o, 0, 0);
+    let r = OpenRead {
+        options: default_options(connection_serial_number),
+        path_start: 0,
+        path_len: 0,
+    };
+    let n = open_numbers(large, r);
     fill(fields, &n[0..13])
 }

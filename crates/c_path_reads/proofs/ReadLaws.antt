@@ -1,77 +1,47 @@
 -- Rows that are read: a segment's row, the walk over a path that was judged, and the ends of bark_read_path. Assumes nothing.
-use Prim.Native.Nat.{ℕ, zero, suc, ◌+◌, ◌*◌, ◌-◌, ◌/◌, ◌≤◌, ◌<◌}
+use Prim.Native.Nat.{ℕ, zero, suc, ◌+◌, ◌*◌, ◌-◌, ◌≤◌, ◌<◌}
 use mathlib.Core.Path.{◌≡◌, refl, sym, ap, ◌∙◌, subst}
 use mathlib.Core.List.{List, [], ◌∷◌, ◌++◌}
+use mathlib.Core.Logic.{⊎_elim}
 use native.Mathlib.Omega.{arith}
-use lib.ListN.{length, length-append, get_or, take, drop}
+use lib.ListN.{length, length-append, length-drop, get_or, take, drop, drop_of_length-le}
 use lib.Seq.{sets, drop-drop}
 use mir.Val.{Fits}
 use mir.Syntax.{w8, w64}
+use Rattle.std.specs.Prelude.{Result, Err}
+use Rattle.wire.specs.Parts.{overlay}
 use Rattle.wire.specs.Refusals.{number}
-use Rattle.wire.specs.Answers.{Answer, done, refused, paper_count, with_room, written}
+use Rattle.wire.specs.Answers.{Answer, done, refused}
 use Rattle.wire.specs.declared.Refusal.{Refusal}
-use Rattle.wire.specs.declared.Counted.{Counted}
-use Rattle.wire.specs.declared.Counted.TheVariants.{Count, Refused as NotCounted}
-use Rattle.wire.proofs.Rules.{rules, never}
-use Rattle.wire.proofs.Stores.{lent_all, length_lent, sets_overlay}
+use Rattle.wire.proofs.Numbers.{below_or}
+use Rattle.wire.proofs.Rules.{never}
+use Rattle.wire.proofs.Stores.{length_lent, sets_overlay}
 use Rattle.wire.proofs.Folds.{Storing, storing_first, storing_fits, storing_more}
 use Rattle.epath_sizes.specs.Limits.{max_segments}
 use Rattle.epath_sizes.specs.Lists.{shifted}
 use Rattle.epath_sizes.specs.declared.Segment.{Segment}
-use Rattle.epath_sizes.specs.declared.Segment.TheVariants.{Symbol, Class, Instance, Attribute, Element, Port}
-use Rattle.epath_sizes.specs.declared.SymbolSegment.{SymbolSegment}
-use Rattle.epath_sizes.specs.declared.PortSegment.{PortSegment}
 use Rattle.epath_sizes.specs.declared.Slot.{Slot}
 use Rattle.epath_segment.specs.declared.SegmentRead.{SegmentRead}
-use Rattle.epath_segment.specs.declared.SegmentRead.TheVariants.{Found, Refused}
 use Rattle.epath_segment.specs.Reads.{Front, front, paper_front, read_seg, moved}
 use Rattle.epath_check.specs.Paths.{before, walk, count_of, list_of, check_path}
-use Rattle.epath_check.proofs.Places.{at_found}
-use Rattle.epath_check.proofs.ShiftLaws.{fits_symbol, fits_port}
+use Rattle.epath_check.proofs.Places.{whole, at_found}
 use Rattle.epath_check.proofs.Walks.{walk_ends, walk_full, walk_stops, walk_goes, Stands}
-use Rattle.c_paths.specs.Kinds.{symbol_kind, class_kind, instance_kind, attribute_kind, element_kind, port_kind, row_numbers}
+use Rattle.c_paths.specs.Kinds.{row_numbers}
 use Rattle.c_paths.specs.Rows.{segment_row, numbers_of, rows_for}
 use Rattle.c_paths.specs.declared.SegmentRow.{SegmentRow}
-use Rattle.c_path_reads.specs.Reads.{path_rows, path_rows_answer, SegmentHere, RowRead, PathJudged}
-
--- ---- a segment's row
-abbrev numbered : ℕ → ℕ → SegmentRow
-numbered k v = record { kind = k; number = v; start = 0; len = 0 }
-
-module _ (x : Segment) (at : ℕ) where
-  pub row_symbol : (y : SymbolSegment) → x ≡ Symbol y → record { kind = symbol_kind; number = 0; start = at + y.start; len = y.len } ≡ segment_row (shifted at x)
-  row_symbol y h = rw h
-
-  pub row_port : (q : PortSegment) → x ≡ Port q → record { kind = port_kind; number = q.port; start = at + q.start; len = q.len } ≡ segment_row (shifted at x)
-  row_port q h = rw h
-
-  module _ (v : ℕ) (r : SegmentRow) where
-    pub row_class : x ≡ Class v → r ≡ numbered class_kind v → r ≡ segment_row (shifted at x)
-    row_class h e = e ∙ rw h
-
-    pub row_instance : x ≡ Instance v → r ≡ numbered instance_kind v → r ≡ segment_row (shifted at x)
-    row_instance h e = e ∙ rw h
-
-    pub row_attribute : x ≡ Attribute v → r ≡ numbered attribute_kind v → r ≡ segment_row (shifted at x)
-    row_attribute h e = e ∙ rw h
-
-    pub row_element : x ≡ Element v → r ≡ numbered element_kind v → r ≡ segment_row (shifted at x)
-    row_element h e = e ∙ rw h
-
-pub ruleset segment_laws = (row_symbol, row_port, row_class, row_instance, row_attribute, row_element, fits_symbol, fits_port)
+use Rattle.c_path_reads.specs.Reads.{path_rows, SegmentHere, RowRead, PathJudged}
 
 -- ---- the row of the segment at a place
-module _ (s : List ℕ) (at : ℕ) (r : SegmentRead) (e : paper_front r ≡ read_seg (take (length s - at) (drop at s))) (old : List ℕ) where
-  pub read_never : (k : Refusal) → r ≡ Refused k → SegmentHere s at (length old) → RowRead s at old at old
-  read_never k h a =
-      let p : read_seg (drop at s) ≡ refused (number k) = rw (← lent_all s at) (sym e ∙ ap paper_front h) in
-      let q : moved at (read_seg (drop at s)) ≡ refused (number k) = ap (moved at) p in
+module _ (s : List ℕ) (at : ℕ) (old : List ℕ) where
+  pub read_never : (r : Result SegmentRead Refusal) (k : Refusal) → paper_front r ≡ read_seg (take (length s - at) (drop at s)) → r ≡ Err k → SegmentHere s at (length old) → RowRead s at old at old
+  read_never r k e h a =
+      let q : moved at (read_seg (drop at s)) ≡ refused (number k) = ap (moved at) (whole s at _ e ∙ ap paper_front h) in
       never (sym q ∙ a.is)
 
-  pub read_stored : (x : Segment) (n : ℕ) → r ≡ Found x n → ((k : ℕ) → Fits w8 (get_or s k 0)) → at ≤ length s → (y : SegmentRow) (new : List ℕ) → y ≡ segment_row (shifted at x)
-      → new ≡ sets old 0 (numbers_of y) → RowRead s at old (at + n) new
-  read_stored x n h b l y new p q =
-      record { segment = shifted at x; placed = at_found s at r e x n h (shifted at x) b refl l; stored = q ∙ ap (λ (z : SegmentRow). sets old 0 (numbers_of z)) p }
+  pub read_stored : (g : SegmentRead) (y : SegmentRow) (new : List ℕ) → new ≡ sets old 0 (numbers_of y) → done (front g.segment g.len) ≡ read_seg (take (length s - at) (drop at s)) → y ≡ segment_row (shifted at g.segment)
+      → ((k : ℕ) → Fits w8 (get_or s k 0)) → at ≤ length s → RowRead s at old (at + g.len) new
+  read_stored g y new q e p b l =
+      record { segment = shifted at g.segment; placed = at_found s at g e (shifted at g.segment) b refl l; stored = q ∙ ap (λ (z : SegmentRow). sets old 0 (numbers_of z)) p }
 
 pub ruleset place_rows = (read_never, read_stored)
 
@@ -83,10 +53,11 @@ rows_length : (l : List Slot) → length (rows_for l) ≡ row_numbers * length l
 rows_length [] = refl
 rows_length (x ∷ l) = omega (arith, rows_length l, length-append (slot_numbers x) (rows_for l))
 
-pub record Reading (s old rows : List ℕ) (at i : ℕ) : Type 0 where
+pub record Reading (s old rows : List ℕ) (count at i : ℕ) : Type 0 where
   pub stands : Stands s i at
   pub list : List Slot
-  pub whole : walk max_segments s 0 ≡ done list
+  pub size : length list ≡ count
+  pub full : walk max_segments s 0 ≡ done list
   pub rest : walk (max_segments - i) s at ≡ done (drop i list)
   pub stores : Storing slot_numbers list old rows (row_numbers * i) i
 
@@ -129,17 +100,18 @@ module _ (s : List ℕ) (at i : ℕ) (list : List Slot) (h : at < length s) wher
   turn_of (suc left) c e = turn_at left c e (moved at (read_seg (drop at s))) refl
 
 module _ (s : List ℕ) where
-  pub reading_first : (rows : List ℕ) → PathJudged s (length rows) → Reading s rows rows 0 0
-  reading_first rows j =
+  pub reading_first : (rows : List ℕ) (count : ℕ) → PathJudged s count (length rows) → Reading s rows rows count 0 0
+  reading_first rows count j =
       record {
         stands = record { few = omega arith; there = omega arith; near = omega arith };
         list = j.list;
-        whole = j.is;
+        size = j.size;
+        full = j.is;
         rest = j.is;
-        stores = storing_first slot_numbers j.list rows (omega (arith, rows_length j.list, j.fits));
+        stores = storing_first slot_numbers j.list rows (omega (arith, rows_length j.list, j.size, j.fits));
       }
 
-  module _ (old rows : List ℕ) (at i : ℕ) (w : Reading s old rows at i) where
+  module _ (old rows : List ℕ) (count at i : ℕ) (w : Reading s old rows count at i) where
     pub reading_small : Fits w64 (row_numbers * i)
     reading_small = record { fits = omega (arith, w.stands.few) }
 
@@ -149,23 +121,31 @@ module _ (s : List ℕ) where
     pub reading_same : length rows ≡ length old
     reading_same = w.stores.same
 
-    pub reading_ends : length s ≤ at → rows ≡ sets old 0 (path_rows s)
+    pub reading_ends : count ≤ i → rows ≡ overlay (path_rows s) old
     reading_ends h =
-        let e : done [] ≡ done (drop i w.list) = sym (walk_ends s at (max_segments - i) h) ∙ w.rest in
-        let f : [] ≡ drop i w.list = cc in
+        let f : [] ≡ drop i w.list = sym (drop_of_length-le w.list (omega (arith, w.size))) in
+        let g : rows_for w.list ≡ path_rows s = ap (λ (x : Answer (List Slot)). rows_for (list_of x)) (sym w.full) in
         ap (λ (l : List Slot). sets rows (row_numbers * i) (rows_for l)) f
         ∙ w.stores.rest
-        ∙ ap (λ (x : Answer (List Slot)). sets old 0 (rows_for (list_of x))) (sym w.whole)
+        ∙ sets_overlay old (rows_for w.list) (omega (arith, rows_length w.list, w.size, w.stores.room, w.stores.same))
+        ∙ ap (λ (b : List ℕ). overlay b old) g
 
-    module _ (h : at < length s) where
+    module _ (l : i < count) where
+      -- a path with segments left has bytes left
+      h : at < length s
+      h = ⊎_elim
+          (λ (a : at < length s). a)
+          (λ (a : length s ≤ at).
+          let e : done [] ≡ done (drop i w.list) = sym (walk_ends s at (max_segments - i) a) ∙ w.rest in
+          let f : [] ≡ drop i w.list = cc in
+          absurd (omega (arith, w.size, ap length f ∙ length-drop i w.list)))
+          (below_or at (length s))
+
       turn : Turn s at i w.list
       turn = turn_of s at i w.list h (max_segments - i) (omega (arith, w.stands.few)) w.rest
 
       room : row_numbers * i + row_numbers ≤ length rows
       room = omega (arith, storing_fits slot_numbers w.list w.stores turn.here)
-
-      pub reading_less : max_segments - (i + 1) < max_segments - i
-      reading_less = omega (arith, turn.few)
 
       pub reading_asks : SegmentHere s at (length (take (length rows - row_numbers * i) (drop (row_numbers * i) rows)))
       reading_asks =
@@ -178,7 +158,7 @@ module _ (s : List ℕ) where
           }
 
       pub reading_more : (r : ℕ) (new : List ℕ) → RowRead s at (take (length rows - row_numbers * i) (drop (row_numbers * i) rows)) r new
-          → Reading s old (take (row_numbers * i) rows ++ (new ++ drop (length rows - row_numbers * i) (drop (row_numbers * i) rows))) r (i + 1)
+          → Reading s old (take (row_numbers * i) rows ++ (new ++ drop (length rows - row_numbers * i) (drop (row_numbers * i) rows))) count r (i + 1)
       reading_more r new d =
           let g : done (front d.segment r) ≡ done (front turn.segment turn.next) = d.placed.is ∙ turn.is in
           let x : d.segment ≡ turn.segment = cc in
@@ -188,7 +168,8 @@ module _ (s : List ℕ) where
           record {
             stands = record { few = omega (arith, turn.few); there = d.placed.inside; near = omega (arith, d.placed.close, w.stands.near) };
             list = w.list;
-            whole = w.whole;
+            size = w.size;
+            full = w.full;
             rest = ap (walk (max_segments - (i + 1)) s) n ∙ turn.rest;
             stores =
                 subst (λ (p : ℕ). Storing slot_numbers w.list old after p (i + 1)) k
@@ -196,7 +177,7 @@ module _ (s : List ℕ) where
                 (record { size = refl; stored = d.stored ∙ ap (λ (y : Segment). sets (take (length rows - row_numbers * i) (drop (row_numbers * i) rows)) 0 (numbers_of (segment_row y))) x }));
           }
 
-pub ruleset reading_laws = (reading_first, reading_small, reading_at, reading_same, reading_ends, reading_less, reading_asks, reading_more)
+pub ruleset reading_laws = (reading_first, reading_small, reading_at, reading_same, reading_ends, reading_asks, reading_more)
 
 -- ---- the ends of bark_read_path
 record Listed (w : Answer (List Slot)) (n : ℕ) : Type 0 where
@@ -208,41 +189,8 @@ listed : (w : Answer (List Slot)) (n : ℕ) → count_of w ≡ done n → Listed
 listed (done l) n h = record { list = l; is = refl; size = cc }
 listed (refused k) n h = never h
 
-module _ (s old : List ℕ) where
-  left : {y : Answer ℕ} {new : List ℕ} → y ≡ path_rows_answer s (length old) → new ≡ written y (path_rows s) old → new ≡ written (path_rows_answer s (length old)) (path_rows s) old
-  left h e = e ∙ ap (λ (x : Answer ℕ). written x (path_rows s) old) h
-
-  module _ (c : Counted) (is : paper_count c ≡ check_path s) where
-    counts : (y : Answer ℕ) → paper_count c ≡ y → with_room y (length old / row_numbers) ≡ path_rows_answer s (length old)
-    counts y h = ap (λ (x : Answer ℕ). with_room x (length old / row_numbers)) (sym h ∙ is)
-
-    pub path_refused : (e : Refusal) → c ≡ NotCounted e → refused (number e) ≡ path_rows_answer s (length old)
-    path_refused e h = counts (refused (number e)) (ap paper_count h)
-
-    pub path_kept : (e : Refusal) → c ≡ NotCounted e → old ≡ written (path_rows_answer s (length old)) (path_rows s) old
-    path_kept e h = left (path_refused e h) refl
-
-    module _ (n : ℕ) (h : c ≡ Count n) where
-      pub path_full : length old / row_numbers < n → refused 2 ≡ path_rows_answer s (length old)
-      path_full l = let z : refused 2 ≡ with_room (done n) (length old / row_numbers) = search rules in z ∙ counts (done n) (ap paper_count h)
-
-      pub path_full_kept : length old / row_numbers < n → old ≡ written (path_rows_answer s (length old)) (path_rows s) old
-      path_full_kept l = left (path_full l) refl
-
-      found : Listed (walk max_segments s 0) n
-      unfolding check_path
-      found = listed (walk max_segments s 0) n (sym is ∙ ap paper_count h)
-
-      module _ (l : n ≤ length old / row_numbers) where
-        pub path_judged : PathJudged s (length old)
-        path_judged = record { list = found.list; is = found.is; fits = omega (arith, found.size) }
-
-        pub path_count : done n ≡ path_rows_answer s (length old)
-        path_count = let z : done n ≡ with_room (done n) (length old / row_numbers) = search rules in z ∙ counts (done n) (ap paper_count h)
-
-        pub path_stored : (new : List ℕ) → new ≡ sets old 0 (path_rows s) → new ≡ written (path_rows_answer s (length old)) (path_rows s) old
-        path_stored new f =
-            let k : length (path_rows s) ≡ row_numbers * n = rows_length (list_of (walk max_segments s 0)) ∙ ap (λ (m : ℕ). row_numbers * m) (ap (λ (w : Answer (List Slot)). length (list_of w)) found.is ∙ found.size) in
-            left path_count (f ∙ sets_overlay old (path_rows s) (omega (arith, k)))
-
-pub ruleset path_laws = (path_refused, path_kept, path_full, path_full_kept, path_judged, path_count, path_stored)
+pub path_judged : (s : List ℕ) (n places : ℕ) → done n ≡ check_path s → row_numbers * n ≤ places → PathJudged s n places
+unfolding check_path
+path_judged s n places h l =
+    let w : Listed (walk max_segments s 0) n = listed (walk max_segments s 0) n (sym h) in
+    record { list = w.list; is = w.is; size = w.size; fits = l }

@@ -35,8 +35,9 @@ pub record RowRead (s : List ℕ) (at : ℕ) (old : List ℕ) (r : ℕ) (new : L
   pub placed : Placed s at (done (front segment r))
   pub stored : new ≡ sets old 0 (numbers_of (segment_row segment))
 
--- all of a path is accepted, and there is room for its rows
-pub record PathJudged (s : List ℕ) (room : ℕ) : Type 0 where
+-- all of a path is accepted, with so many segments, and there is room for their rows
+pub record PathJudged (s : List ℕ) (count room : ℕ) : Type 0 where
   pub list : List Slot
   pub is : walk max_segments s 0 ≡ done list
-  pub fits : row_numbers * length list ≤ room
+  pub size : length list ≡ count
+  pub fits : row_numbers * count ≤ room

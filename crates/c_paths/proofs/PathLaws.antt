@@ -7,12 +7,10 @@ use lib.ListN.{length, take, drop}
 use lib.Seq.{sets}
 use mir.Val.{Fits}
 use mir.Syntax.{w64}
-use Rattle.wire.specs.Refusals.{number}
-use Rattle.wire.specs.Answers.{Answer, done, refused, paper_size, over, with_room, written, Put}
+use Rattle.std.specs.Prelude.{Result, Ok, Err}
+use Rattle.wire.specs.Answers.{Answer, done, refused, paper, over, with_room, written, Put}
 use Rattle.wire.specs.Folds.{sizes, joined}
 use Rattle.wire.specs.declared.Refusal.{Refusal}
-use Rattle.wire.specs.declared.Wrote.{Wrote}
-use Rattle.wire.specs.declared.Wrote.TheVariants.{Size, Refused}
 use Rattle.wire.proofs.Rules.{rules, never, all_keep, all_were}
 use Rattle.wire.proofs.Answers.{Parts, plus_parts, room_kept}
 use Rattle.wire.proofs.Stores.{sets_overlay, length_lent}
@@ -47,16 +45,16 @@ module _ (pool s : List ℕ) where
     pub summing_ends : length s / row_numbers ≤ i → done total ≡ rows_size pool s
     summing_ends h = counted few (adding_ends (segment_row_size pool) most_bytes (row_short pool) (rows_of s) m (rows_past s i h))
 
-    module _ (h : i < length s / row_numbers) (x : SegmentRow) (at : x ≡ segment_row_at s (row_numbers * i)) (r : Wrote) (is : paper_size r ≡ segment_row_size pool x) where
-      sizes_here : {y : Answer ℕ} → paper_size r ≡ y → segment_row_size pool (segment_row_at s (row_numbers * i)) ≡ y
-      sizes_here e = ap (segment_row_size pool) (sym at) ∙ sym is ∙ e
+    module _ (h : i < length s / row_numbers) (x : SegmentRow) (at : x ≡ segment_row_at s (row_numbers * i)) where
+      sizes_here : {y : Answer ℕ} → y ≡ segment_row_size pool x → segment_row_size pool (segment_row_at s (row_numbers * i)) ≡ y
+      sizes_here e = ap (segment_row_size pool) (sym at) ∙ sym e
 
-      pub summing_stops : (e : Refusal) → r ≡ Refused e → refused (number e) ≡ rows_size pool s
-      summing_stops e f = counted few (adding_stops (segment_row_size pool) most_bytes (row_short pool) (rows_of s) m (rows_next s i h) (number e) (sizes_here (ap paper_size f)))
+      pub summing_stops : (k : ℕ) → refused k ≡ segment_row_size pool x → refused k ≡ rows_size pool s
+      summing_stops k e = counted few (adding_stops (segment_row_size pool) most_bytes (row_short pool) (rows_of s) m (rows_next s i h) k (sizes_here e))
 
-      module _ (n : ℕ) (f : r ≡ Size n) where
+      module _ (n : ℕ) (e : done n ≡ segment_row_size pool x) where
         pub summing_more : Summing pool s (total + n) (i + 1)
-        summing_more = adding_more (segment_row_size pool) most_bytes (row_short pool) (rows_of s) m (rows_next s i h) n (sizes_here (ap paper_size f))
+        summing_more = adding_more (segment_row_size pool) most_bytes (row_short pool) (rows_of s) m (rows_next s i h) n (sizes_here e)
 
         pub summing_fits : Fits w64 (total + n)
         summing_fits = record { fits = omega (arith, summing_more.small) }
@@ -71,13 +69,13 @@ module _ (pool : List ℕ) (r : SegmentRow) (old : List ℕ) (a : RowReady pool 
   pub ready_within : r.number ≤ most_of r.kind
   ready_within = was.within
 
-  module _ (x : Segment) (e : x ≡ segment_of r) (w : Wrote) (new : List ℕ) (is : paper_size w ≡ with_room (segment_size pool x) (length old)) where
+  module _ (x : Segment) (e : x ≡ segment_of r) (w : Result ℕ Refusal) (new : List ℕ) (is : paper w ≡ with_room (segment_size pool x) (length old)) where
     kept : with_room (segment_size pool x) (length old) ≡ done a.size
     kept = room_kept (segment_size pool x) (length old) a.size (ap (segment_size pool) e ∙ was.is) a.fits
 
-    pub ready_put : (n : ℕ) → w ≡ Size n → new ≡ written (with_room (segment_size pool x) (length old)) (encode_seg (meaning pool x)) old → Put (segment_row_bytes pool r) old n new
+    pub ready_put : (n : ℕ) → w ≡ Ok n → new ≡ written (with_room (segment_size pool x) (length old)) (encode_seg (meaning pool x)) old → Put (segment_row_bytes pool r) old n new
     ready_put n h b =
-        let d : done n ≡ done a.size = sym (ap paper_size h) ∙ is ∙ kept in
+        let d : done n ≡ done a.size = sym (ap paper h) ∙ is ∙ kept in
         let q : n ≡ a.size = cc in
         let bytes : encode_seg (meaning pool x) ≡ segment_row_bytes pool r = ap (λ (y : Segment). encode_seg (meaning pool y)) e in
         record {
@@ -89,8 +87,8 @@ module _ (pool : List ℕ) (r : SegmentRow) (old : List ℕ) (a : RowReady pool 
               ∙ ap (sets old 0) bytes;
         }
 
-    pub ready_never : (f : Refusal) → w ≡ Refused f → Put (segment_row_bytes pool r) old 0 new
-    ready_never f h = never (sym (ap paper_size h) ∙ is ∙ kept)
+    pub ready_never : (f : Refusal) → w ≡ Err f → ⊥
+    ready_never f h = never (sym (ap paper h) ∙ is ∙ kept)
 
 pub ruleset ready_laws = (ready_within, ready_put, ready_never)
 
@@ -155,15 +153,15 @@ module _ (pool s : List ℕ) where
 pub ruleset filing_laws = (filing_first, filing_at, filing_same, filing_ends, filing_asks, filing_fits, filing_more)
 
 -- ---- rows that were sized are stored
-module _ (pool s : List ℕ) (w : Wrote) (n : ℕ) (is : paper_size w ≡ rows_size pool s) (h : w ≡ Size n) where
+module _ (pool s : List ℕ) (n : ℕ) (e : done n ≡ rows_size pool s) where
   summed : sizes (segment_row_size pool) (rows_of s) ≡ done n
   unfolding rows_size
-  summed = (all_were (over (length s / row_numbers) max_segments 3 ∷ []) (sizes (segment_row_size pool) (rows_of s)) n (sym is ∙ ap paper_size h)).1
+  summed = (all_were (over (length s / row_numbers) max_segments 3 ∷ []) (sizes (segment_row_size pool) (rows_of s)) n (sym e)).1
 
   pub rows_length : n ≡ length (encode (segs pool (slots_in s)))
   rows_length = all_sized pool (rows_of s) n summed ∙ ap length (joined_rows pool (rows_of s))
 
-  pub rows_ready : (old : List ℕ) → n ≤ length old → RowsReady pool s (length old)
-  rows_ready old l = record { size = n; sized = summed; fits = l }
+  pub rows_ready : (room : ℕ) → n ≤ room → RowsReady pool s room
+  rows_ready room l = record { size = n; sized = summed; fits = l }
 
 pub ruleset rows_laws = (rows_length, rows_ready)

@@ -11,11 +11,10 @@ ghost use Rattle.epath_sizes.specs.Lists.{segs};
 ghost use Rattle.c_answers.specs.Codes.{code};
 ghost use Rattle.c_paths.specs.Rows.{rows_size, slots_in};
 
-use c_answers::{refusal_answer, size_answer};
-use wire::{Refusal, Wrote};
-use write::{put_rows, rows_size};
+use c_answers::size_answer;
+use write::{rows_size, write_rows};
 
-// ---- kinds, each beside its twin in specs/Kinds.antt; the reader, c_path_reads, uses them too
+// ---- kinds, each beside its twin in specs/Kinds.antt; the reader, c_path_reads, uses them too. Numbers: the C interface takes rows of u32
 
 pub const SYMBOL: u32 = 0;
 
@@ -61,14 +60,5 @@ pub extern "C" fn bark_write_path(segments: &[u32], pool: &[u8], out: &mut [u8])
     ensures answer { result ≡ code (with_room (rows_size pool.now segments.now) (length out.old)) }
     ensures bytes { out.new ≡ written (with_room (rows_size pool.now segments.now) (length out.old)) (encode (segs pool.now (slots_in segments.now))) out.old }
 {
-    match rows_size(segments, pool) {
-        Wrote::Refused(e) => refusal_answer(e),
-        Wrote::Size(size) => {
-            if out.len() < size {
-                return refusal_answer(Refusal::Room);
-            }
-            put_rows(segments, pool, out);
-            size
-        }
-    }
+    size_answer(write_rows(segments, pool, out))
 }

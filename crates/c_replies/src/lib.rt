@@ -8,7 +8,7 @@ ghost use Rattle.c_reply_numbers.specs.Numbers.{reply_run};
 
 use c_answers::{fill, refusal_answer};
 use c_reply_numbers::reply_numbers;
-use reply_header::{ReplyRead, read_reply_header};
+use reply_header::read_reply_header;
 
 // Reads a reply's header.
 #[unsafe(no_mangle)]
@@ -17,7 +17,7 @@ pub extern "C" fn bark_read_reply(s: &[u8], fields: &mut [usize]) -> usize
     ensures numbers { fields.new ≡ run_left (reply_run (read_header s.now)) fields.old }
 {
     match read_reply_header(s) {
-        ReplyRead::Refused(e) => refusal_answer(e),
-        ReplyRead::Found(m) => fill(fields, &reply_numbers(m)),
+        Err(e) => refusal_answer(e), // C interface: one number
+        Ok(m) => fill(fields, &reply_numbers(m)),
     }
 }

@@ -2,42 +2,20 @@
 #![tactic(auto)]
 
 ghost use Rattle.std.specs.Prelude.{◌≡◌};
-ghost use Rattle.c_reply_numbers.specs.Numbers.{extended_words, extended_word, reply_numbers};
+ghost use Rattle.c_reply_numbers.specs.Numbers.{reply_numbers};
 
 use reply_header::MessageReply;
-use statuses::ExtendedStatus;
 
-// Words of extended status.
-fn words_of(extended: ExtendedStatus) -> usize
-    ensures { result ≡ extended_words extended }
-{
-    match extended {
-        ExtendedStatus::Absent => 0,
-        ExtendedStatus::Word(_) => 1,
-    }
-}
-
-// That word, 0 if there is none.
-fn word_of(extended: ExtendedStatus) -> usize
-    ensures { result ≡ extended_word extended }
-{
-    match extended {
-        ExtendedStatus::Absent => 0,
-        ExtendedStatus::Word(word) => word as usize,
-    }
-}
-
-// Service, general status, words of extended status and that word, start and length of the data.
+// Service, general status, words of extended status and that word or 0, start and length of the data.
 pub fn reply_numbers(m: MessageReply) -> [usize; 6]
     ensures { result ≡ reply_numbers m }
 {
-    let status = m.status;
-    let extended = status.extended;
+    let extended = m.status.extended;
     [
         m.reply_service as usize,
-        status.general as usize,
-        words_of(extended),
-        word_of(extended),
+        m.status.general as usize,
+        extended.map_or(0, |_| 1),
+        extended.map_or(0, |word| word as usize),
         m.data_start,
         m.data_len,
     ]

@@ -1,65 +1,34 @@
--- Rows of replies: a row is seven stores, a turn of the loop is a row, and the ends of the walk. Assumes nothing.
+-- Rows of replies: a row is copied, a turn of the loop is a row, and the ends of the walk. Assumes nothing.
 use Prim.Native.Nat.{ℕ, zero, suc, ◌+◌, ◌*◌, ◌-◌, ◌/◌, ◌≤◌, ◌<◌}
 use mathlib.Core.Path.{◌≡◌, refl, sym, ap, ◌∙◌}
-use mathlib.Core.List.{List, [], ◌∷◌}
+use mathlib.Core.List.{List, [], ◌∷◌, ◌++◌, append_assoc}
 use native.Mathlib.Omega.{arith}
-use lib.ListN.{length, length-append, get_or, set, drop, drop_of_length-le}
-use lib.Seq.{sets, drop-cons, length-sets}
-use Rattle.wire.specs.Refusals.{number}
-use Rattle.wire.specs.Answers.{Answer, done, refused, paper_count, under, judged, written}
+use lib.ListN.{length, length-append, take, drop}
+use lib.Seq.{sets, sets-eq, length-sets, drop-drop}
+use borrow.Rule.Slice.PartMut.{put_mid}
+use Rattle.std.specs.Prelude.{Result}
+use Rattle.wire.specs.Answers.{Answer, done, refused, paper, under, judged, written}
 use Rattle.wire.specs.declared.Refusal.{Refusal}
-use Rattle.wire.specs.declared.Counted.{Counted}
-use Rattle.wire.specs.declared.Counted.TheVariants.{Count, Refused as NotCounted}
 use Rattle.wire.proofs.Rules.{rules, then_stops, then_goes}
 use Rattle.wire.proofs.Stores.{sets_append, sets_overlay}
-use Rattle.reply_header.specs.Headers.{paper_reply}
 use Rattle.reply_header.specs.declared.MessageReply.{MessageReply}
-use Rattle.reply_header.specs.declared.ReplyRead.{ReplyRead}
-use Rattle.reply_header.specs.declared.ReplyRead.TheVariants.{Found, Refused}
 use Rattle.body_read.specs.Reads.{read_body}
 use Rattle.body_replies.specs.Replies.{walk_reply}
-use Rattle.c_answers.specs.Codes.{code}
-use Rattle.c_reply_numbers.specs.Numbers.{reply_numbers}
 use Rattle.c_reply_walk.specs.Rows.{reply_row_size, reply_row, rows_from, rows_answer, rows_in, reply_rows}
 
 -- ---- a row
+pub row_put : (l row new : List ℕ) (at : ℕ) → length row ≡ reply_row_size → at + reply_row_size ≤ length l → new ≡ row
+    → put_mid at (at + reply_row_size - at) l new ≡ sets l at row
+row_put l row new at w h e =
+    let k : at + reply_row_size - at ≡ reply_row_size = omega arith in
+    let d : drop reply_row_size (drop at l) ≡ drop (at + length row) l = drop-drop reply_row_size at l ∙ ap (λ (j : ℕ). drop (at + j) l) (sym w) in
+    ap (λ (j : ℕ). take at l ++ (new ++ drop j (drop at l))) k
+    ∙ ap (λ (z : List ℕ). take at l ++ (z ++ drop reply_row_size (drop at l))) e
+    ∙ ap (λ (z : List ℕ). take at l ++ (row ++ z)) d
+    ∙ sym (append_assoc (take at l) row (drop (at + length row) l))
+    ∙ sym (sets-eq row l at (omega (arith, w)))
 
--- six numbers, one by one
-six_are : (l : List ℕ) → length l ≡ 6 → get_or l 0 0 ∷ get_or l 1 0 ∷ get_or l 2 0 ∷ get_or l 3 0 ∷ get_or l 4 0 ∷ get_or l 5 0 ∷ [] ≡ l
-six_are l h =
-    let from : (i : ℕ) → i < 6 → get_or l i 0 ∷ drop (suc i) l ≡ drop i l = λ i k. sym (drop-cons l i 0 (omega arith)) in
-    let none : drop 6 l ≡ [] = drop_of_length-le l {i = 6} (omega arith) in
-    rw (← none, from 5 (omega arith), from 4 (omega arith), from 3 (omega arith), from 2 (omega arith), from 1 (omega arith), from 0 (omega arith))
-
-pub seven_stores : (l six : List ℕ) (at v : ℕ) → reply_row_size ≡ 1 + length six
-    → set (set (set (set (set (set (set l at v) (at + 1) (get_or six 0 0)) (at + 2) (get_or six 1 0)) (at + 3) (get_or six 2 0)) (at + 4) (get_or six 3 0)) (at + 5) (get_or six 4 0)) (at + 6) (get_or six 5 0)
-    ≡ sets l at (v ∷ six)
-seven_stores l six at v h =
-    let e1 : at + 1 ≡ suc at = omega arith in
-    let e2 : at + 2 ≡ suc (suc at) = omega arith in
-    let e3 : at + 3 ≡ suc (suc (suc at)) = omega arith in
-    let e4 : at + 4 ≡ suc (suc (suc (suc at))) = omega arith in
-    let e5 : at + 5 ≡ suc (suc (suc (suc (suc at)))) = omega arith in
-    let e6 : at + 6 ≡ suc (suc (suc (suc (suc (suc at))))) = omega arith in
-    let x : sets l at (v ∷ get_or six 0 0 ∷ get_or six 1 0 ∷ get_or six 2 0 ∷ get_or six 3 0 ∷ get_or six 4 0 ∷ get_or six 5 0 ∷ []) ≡ sets l at (v ∷ six)
-    = ap (λ (t : List ℕ). sets l at (v ∷ t)) (six_are six (omega arith)) in
-    rw (e1, e2, e3, e4, e5, e6) x
-
-pub ruleset row_laws = (seven_stores)
-
--- ---- what was read of one reply
-module _ (old new : List ℕ) (at : ℕ) (w : ReplyRead) where
-  pub reply_no : (e : Refusal) (v : ℕ) → w ≡ Refused e → v ≡ number e → new ≡ sets old at (v ∷ 0 ∷ 0 ∷ 0 ∷ 0 ∷ 0 ∷ 0 ∷ []) → new ≡ sets old at (reply_row (paper_reply w))
-  reply_no e v h f g = g ∙ rw (h, f)
-
-  pub reply_yes : (m : MessageReply) (six : List ℕ) → w ≡ Found m → six ≡ reply_numbers m → new ≡ sets old at (0 ∷ six) → new ≡ sets old at (reply_row (paper_reply w))
-  reply_yes m six h f g = g ∙ rw (h, f)
-
--- a header has one number less than a row
-pub six_numbers : (m : MessageReply) (six : List ℕ) → six ≡ reply_numbers m → reply_row_size ≡ 1 + length six
-six_numbers m six e = omega (arith, ap length e)
-
-pub ruleset reply_laws = (reply_no, reply_yes, six_numbers)
+pub ruleset row_laws = (row_put)
 
 -- ---- the loop: what is stored, and then what is left, is all rows
 
@@ -85,11 +54,11 @@ module _ (s : List ℕ) (n : ℕ) (old : List ℕ) where
     pub turn_place : reply_row_size * n ≤ length old → k < n → reply_row_size * k + reply_row_size ≤ length rows
     turn_place h l = omega (arith, t.same)
 
-    pub turn_goes : (w : ReplyRead) (new : List ℕ) → k < n → paper_reply w ≡ walk_reply s n k → new ≡ sets rows (reply_row_size * k) (reply_row (paper_reply w)) → Turn new (k + 1)
-    turn_goes w new l is e =
+    pub turn_goes : (w : Result MessageReply Refusal) (row new : List ℕ) → k < n → paper w ≡ walk_reply s n k → row ≡ reply_row (paper w) → new ≡ sets rows (reply_row_size * k) row → Turn new (k + 1)
+    turn_goes w row new l is g e =
         let a : List ℕ = reply_row (walk_reply s n k) in
         let b : List ℕ = rows_from (n - (k + 1)) s n (k + 1) in
-        let f : new ≡ sets rows (reply_row_size * k) a = e ∙ ap (λ (x : Answer MessageReply). sets rows (reply_row_size * k) (reply_row x)) is in
+        let f : new ≡ sets rows (reply_row_size * k) a = e ∙ ap (λ (x : List ℕ). sets rows (reply_row_size * k) x) (g ∙ ap reply_row is) in
         let p : reply_row_size * (k + 1) ≡ reply_row_size * k + length a = omega (arith, row_length (walk_reply s n k)) in
         let q : suc (n - (k + 1)) ≡ n - k = omega arith in
         record {
@@ -111,32 +80,22 @@ module _ (s : List ℕ) (n : ℕ) (old : List ℕ) where
 pub ruleset turn_laws = (turn_first, turn_place, turn_goes, turn_ends)
 
 -- ---- the ends
-module _ (s old : List ℕ) (w : Counted) (is : paper_count w ≡ read_body s) where
-  module _ (e : Refusal) (h : w ≡ NotCounted e) where
-    no_body : refused (number e) ≡ rows_answer s (length old)
-    unfolding rows_answer
-    no_body = then_stops (read_body s) (λ n. judged (under (length old) (reply_row_size * n) 2 ∷ []) (done n)) (number e) (sym is ∙ ap paper_count h)
+module _ (s old : List ℕ) where
+  pub no_body : (k : ℕ) → refused k ≡ read_body s → refused k ≡ rows_answer s (length old)
+  unfolding rows_answer
+  no_body k h = then_stops (read_body s) (λ n. judged (under (length old) (reply_row_size * n) 2 ∷ []) (done n)) k (sym h)
 
-    pub refused_answer : (r : ℕ) → r ≡ code (refused (number e)) → r ≡ code (rows_answer s (length old))
-    refused_answer r f = f ∙ ap code no_body
+  pub no_body_rows : (k : ℕ) → refused k ≡ read_body s → old ≡ written (rows_answer s (length old)) (reply_rows s) old
+  no_body_rows k h = ap (λ (x : Answer ℕ). written x (reply_rows s) old) (no_body k h)
 
-    pub refused_rows : old ≡ written (rows_answer s (length old)) (reply_rows s) old
-    refused_rows = ap (λ (x : Answer ℕ). written x (reply_rows s) old) no_body
-
-  module _ (n : ℕ) (h : w ≡ Count n) where
-    body : read_body s ≡ done n
-    body = sym is ∙ ap paper_count h
-
+  module _ (n : ℕ) (body : done n ≡ read_body s) where
     goes : (z : Answer ℕ) → z ≡ judged (under (length old) (reply_row_size * n) 2 ∷ []) (done n) → z ≡ rows_answer s (length old)
     unfolding rows_answer
-    goes z e = then_goes (read_body s) (λ n. judged (under (length old) (reply_row_size * n) 2 ∷ []) (done n)) n z body e
+    goes z e = then_goes (read_body s) (λ n. judged (under (length old) (reply_row_size * n) 2 ∷ []) (done n)) n z (sym body) e
 
     module _ (l : length old / reply_row_size < n) where
-      full : refused 2 ≡ rows_answer s (length old)
+      pub full : refused 2 ≡ rows_answer s (length old)
       full = let k : length old < reply_row_size * n = omega arith in goes (refused 2) (search rules)
-
-      pub full_answer : (r : ℕ) → r ≡ code (refused 2) → r ≡ code (rows_answer s (length old))
-      full_answer r f = f ∙ ap code full
 
       pub full_rows : old ≡ written (rows_answer s (length old)) (reply_rows s) old
       full_rows = ap (λ (x : Answer ℕ). written x (reply_rows s) old) full
@@ -145,11 +104,8 @@ module _ (s old : List ℕ) (w : Counted) (is : paper_count w ≡ read_body s) w
       pub rows_fit : reply_row_size * n ≤ length old
       rows_fit = omega arith
 
-      enough : done n ≡ rows_answer s (length old)
+      pub enough : done n ≡ rows_answer s (length old)
       enough = let k : reply_row_size * n ≤ length old = rows_fit in goes (done n) (search rules)
-
-      pub all_answer : n ≡ code (rows_answer s (length old))
-      all_answer = ap code enough
 
       pub all_rows : (new : List ℕ) → new ≡ sets old 0 (rows_from n s n 0) → new ≡ written (rows_answer s (length old)) (reply_rows s) old
       unfolding reply_rows
@@ -157,6 +113,6 @@ module _ (s old : List ℕ) (w : Counted) (is : paper_count w ≡ read_body s) w
           f
           ∙ sets_overlay old (rows_from n s n 0) (omega (arith, rows_fit, rows_length n s n 0))
           ∙ ap (λ (x : Answer ℕ). written x (rows_from n s n 0) old) enough
-          ∙ ap (λ (x : Answer ℕ). written (rows_answer s (length old)) (rows_in x s) old) (sym body)
+          ∙ ap (λ (x : Answer ℕ). written (rows_answer s (length old)) (rows_in x s) old) body
 
-pub ruleset end_laws = (refused_answer, refused_rows, full_answer, full_rows, rows_fit, all_answer, all_rows)
+pub ruleset end_laws = (no_body, no_body_rows, full, full_rows, rows_fit, enough, all_rows)

@@ -11,7 +11,7 @@ ghost use Rattle.c_sends.specs.Fields.{send_of, send_run};
 use c_answers::{fill, refusal_answer, size_answer};
 use connection::UnconnectedSend;
 use send_over::write_unconnected_send_over;
-use send_read::{SendRead, read_unconnected_send};
+use send_read::read_unconnected_send;
 
 // Writes the data of an Unconnected Send over a path's bytes.
 #[unsafe(no_mangle)]
@@ -39,11 +39,17 @@ pub extern "C" fn bark_read_unconnected_send(s: &[u8], fields: &mut [usize]) -> 
     ensures numbers { fields.new ≡ run_left (send_run s.now) fields.old }
 {
     match read_unconnected_send(s) {
-        SendRead::Refused(e) => refusal_answer(e),
-        SendRead::Found(u, from, m, start, len) => {
-            let priority = u.priority_ticks as usize;
-            let timeout = u.timeout_ticks as usize;
-            fill(fields, &[priority, timeout, from, m, start, len])
+        Err(e) => refusal_answer(e), // C interface: one number
+        Ok(r) => {
+            let numbers = [
+                r.send.priority_ticks as usize,
+                r.send.timeout_ticks as usize,
+                r.message_start,
+                r.message_len,
+                r.path_start,
+                r.path_len,
+            ];
+            fill(fields, &numbers)
         }
     }
 }

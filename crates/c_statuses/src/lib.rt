@@ -5,21 +5,15 @@ ghost use Rattle.std.specs.Prelude.{◌≡◌};
 ghost use Rattle.statuses.specs.Statuses.{is_routing_error};
 ghost use Rattle.c_statuses.specs.Statuses.{status_of};
 
-use statuses::{ExtendedStatus, Status, is_routing_error};
+use statuses::{Status, is_routing_error};
 
-// A status of numbers: general status, and an extended word if there is one.
+// A status of numbers: general status, and an extended word if there is one, by a flag beside it, as the C interface has it.
 pub fn status_of(general: u8, has_word: bool, word: u16) -> Status
     ensures { result ≡ status_of general has_word word }
 {
-    if has_word {
-        return Status {
-            general,
-            extended: ExtendedStatus::Word(word),
-        };
-    }
     Status {
         general,
-        extended: ExtendedStatus::Absent,
+        extended: has_word.then_some(word),
     }
 }
 

@@ -1,17 +1,12 @@
 -- The class and trigger of a Forward Open from numbers and as numbers, for C: each enum is the number that stands for it in its field
 -- (connection_words, specs/Codes.antt). The places are those of include/barkcushion.h. Assumes nothing: these are definitions.
-use Rattle.std.specs.Prelude.{ℕ, ◌+◌, ◌*◌, Bool, List, [], ◌∷◌}
+use Rattle.std.specs.Prelude.{ℕ, Bool, List, [], ◌∷◌}
 use Rattle.wire.specs.Answers.{Answer, done, over, judged}
-use Rattle.connection.specs.declared.Direction.{Direction}
-use Rattle.connection.specs.declared.TriggerType.{TriggerType}
-use Rattle.connection.specs.declared.TransportClass.{TransportClass}
 use Rattle.connection_words.specs.Codes.{last_trigger, last_class, bit, direction_number, trigger_number, class_number, direction_of, trigger_of, class_of}
 use Rattle.connection_words.specs.Fields.{Transport, transport, read_transport}
 use Rattle.c_answers.specs.Codes.{run_of}
-
--- the byte of these three: what `class_trigger` says of every record that has them (`byte_of_record` in proofs/Laws.antt)
-abbrev pub transport_byte : Direction → TriggerType → TransportClass → ℕ
-transport_byte d t c = 128 * direction_number d + 16 * trigger_number t + class_number c
+-- what `class_trigger` says of every record that has the three (`byte_of_record` in proofs/Laws.antt)
+pub use Rattle.connection_words.specs.Fields.{transport_byte}
 
 -- numbers that name no trigger and no class are refused
 unfoldable pub encoded_transport : Bool → ℕ → ℕ → Answer ℕ

@@ -1,6 +1,7 @@
 -- Document 01's bench cards, those that it marks *, in one table: what is asked, and the answer. Bytes in hex, as the card has them.
 -- Assumes nothing: these are definitions.
 use Rattle.std.specs.Prelude.{ℕ, List, [], ◌∷◌, Bool, false, length, eqb}
+use Rattle.std.specs.Prelude.{Option, Some, None}
 use Rattle.wire.specs.Choice.{same_bytes}
 use Rattle.wire.specs.Answers.{Answer, done, refused, and_then}
 use Rattle.epath_sizes.specs.Segments.{encode_seg}
@@ -9,8 +10,6 @@ use Rattle.epath_sizes.specs.Sizes.{segment_size}
 use Rattle.epath_sizes.specs.declared.Segment.{Segment}
 use Rattle.epath_sizes.specs.declared.Segment.TheVariants.{Symbol, Element, Port}
 use Rattle.epath_check.specs.Paths.{check_path}
-use Rattle.statuses.specs.declared.ExtendedStatus.{ExtendedStatus}
-use Rattle.statuses.specs.declared.ExtendedStatus.TheVariants.{Absent, Word}
 use Rattle.reply_header.specs.Headers.{read_header}
 use Rattle.body_join.specs.Joins.{join_of, join_size}
 
@@ -26,9 +25,9 @@ pub data Asked : Type 0 where
   -- two bodies, joined
   join : List ℕ → List ℕ → Asked
 
-abbrev pub extended_list : ExtendedStatus → List ℕ
-extended_list Absent = []
-extended_list (Word w) = w ∷ []
+abbrev pub extended_list : Option ℕ → List ℕ
+extended_list None = []
+extended_list (Some w) = w ∷ []
 
 -- what the promises say: the bytes; of a path how many segments it has; of a reply its words of extended status. Or the refusal
 abbrev pub promised : Asked → Answer (List ℕ)

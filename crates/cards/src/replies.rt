@@ -1,110 +1,61 @@
 // The cards on replies and bodies.
-use crate::{recorded, show};
-use reply_header::ReplyRead;
-use statuses::ExtendedStatus;
+use crate::BLANK;
+use crate::recorded::Cards;
+use crate::show::Said;
+use std::io;
 
-// A reply's word of extended status, low byte first at the front of out.
-fn extended(s: &[u8], out: &mut [u8]) -> show::Said {
-    let m = match reply::read_reply_header(s) {
-        ReplyRead::Refused(e) => return show::refused_said(e),
-        ReplyRead::Found(m) => m,
-    };
-    let status = m.status;
-    let extended = status.extended;
-    match extended {
-        ExtendedStatus::Absent => show::bytes_said(0),
-        ExtendedStatus::Word(w) => {
-            wire_write::put_u16(out, 0, w);
-            show::bytes_said(2)
-        }
+// A reply's extended status, low byte first.
+fn header(cards: &mut Cards<'_>, name: &str, s: &[u8], want: Said<'_>) -> io::Result<()> {
+    match reply::read_reply_header(s) {
+        Err(e) => cards.card(name, want, Said::refused(e)),
+        Ok(m) => match m.status.extended {
+            None => cards.card(name, want, Said::Bytes(b"")),
+            Some(word) => cards.card(name, want, Said::Bytes(&word.to_le_bytes())),
+        },
     }
 }
 
-fn header(name: &[u8], s: &[u8], refusal: u8, want: &[u8], said: &[u8], at: usize) -> usize {
-    let mut out = [0u8; 2];
-    let got = extended(s, &mut out);
-    show::card(name, refusal, want, got, &out);
-    recorded::beside(said, at, want)
-}
-
-pub(crate) fn headers(said: &[u8], from: usize) -> usize {
-    let mut at = from;
-    at = header(
-        b"* reply 8E 00 08 01 03 00, extended",
-        b"\x8E\x00\x08\x01\x03\x00",
-        0,
-        b"\x03\x00",
-        said,
-        at,
-    );
-    at = header(
-        b"* without its last byte",
-        b"\x8E\x00\x08\x01\x03",
-        1,
-        b"",
-        said,
-        at,
-    );
-    at
+pub(crate) fn headers(cards: &mut Cards<'_>) -> io::Result<()> {
+    let s = b"\x8E\x00\x08\x01\x03\x00";
+    let want = Said::Bytes(b"\x03\x00");
+    header(cards, "* reply 8E 00 08 01 03 00, extended", s, want)?;
+    header(cards, "* without its last byte", &s[..5], Said::Refused(1))
 }
 
 // The data of a body's reply.
 fn item(
-    name: &[u8],
+    cards: &mut Cards<'_>,
+    name: &str,
     s: &[u8],
     index: usize,
-    refusal: u8,
-    want: &[u8],
-    said: &[u8],
-    at: usize,
-) -> usize {
-    match body::reply_item(s, index) {
-        ReplyRead::Refused(e) => show::card(name, refusal, want, show::refused_said(e), b""),
-        ReplyRead::Found(m) => {
-            let data = wire_read::part_of(s, m.data_start, m.data_len);
-            show::card(name, refusal, want, show::bytes_said(m.data_len), data);
-        }
-    }
-    recorded::beside(said, at, want)
+    want: Said<'_>,
+) -> io::Result<()> {
+    let ours = match body::reply_item(s, index) {
+        Ok(m) => Said::Bytes(wire_read::part_of(s, m.data_start, m.data_len)),
+        Err(e) => Said::refused(e),
+    };
+    cards.card(name, want, ours)
 }
 
-// Two bodies, joined.
-fn join(name: &[u8], a: &[u8], b: &[u8], want: &[u8], said: &[u8], at: usize) -> usize {
-    let mut out = [0xA5; 32];
-    let got = show::wrote(body::join_bodies(a, b, &mut out));
-    show::card(name, 0, want, got, &out);
-    recorded::beside(said, at, want)
-}
-
-pub(crate) fn bodies(said: &[u8], from: usize) -> usize {
+pub(crate) fn bodies(cards: &mut Cards<'_>) -> io::Result<()> {
     let two =
         b"\x02\x00\x06\x00\x0E\x00\x8E\x00\x01\x02\x00\x00\x00\x00\x8E\x00\x00\x00\x00\x00\x48\x42";
-    let mut at = from;
-    at = item(
-        b"body with a two-word item, item 0",
+    let want = Said::Bytes(b"\x00\x00\x48\x42");
+    item(
+        cards,
+        "body with a two-word item, item 0",
         two,
         0,
-        6,
-        b"",
-        said,
-        at,
-    );
-    at = item(
-        b"the same body, data of item 1",
-        two,
-        1,
-        0,
-        b"\x00\x00\x48\x42",
-        said,
-        at,
-    );
-    at = join(
-        b"* join of 01 00 04 00 AA and 01 00 04 00 BB CC",
+        Said::Refused(6),
+    )?;
+    item(cards, "the same body, data of item 1", two, 1, want)?;
+    let mut out = [BLANK; 32];
+    let w = body::join_bodies(
         b"\x01\x00\x04\x00\xAA",
         b"\x01\x00\x04\x00\xBB\xCC",
-        b"\x02\x00\x06\x00\x07\x00\xAA\xBB\xCC",
-        said,
-        at,
+        &mut out,
     );
-    at
+    let want = Said::Bytes(b"\x02\x00\x06\x00\x07\x00\xAA\xBB\xCC");
+    let name = "* join of 01 00 04 00 AA and 01 00 04 00 BB CC";
+    cards.card(name, want, Said::wrote(w, &out))
 }

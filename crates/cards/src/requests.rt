@@ -1,54 +1,33 @@
 // The cards on requests: the default Forward Open, and both sides of the small connection size's limit.
-use crate::{recorded, show};
+use crate::BLANK;
+use crate::recorded::Cards;
+use crate::show::Said;
 use connection::OpenOptions;
+use std::io;
+use wire::Refusal;
 
 // Any serial number: the cards have none of its bytes.
 const SERIAL: u16 = 0x1234;
 
-// Bytes of a Forward Open, and how many of them were written.
-#[derive(Clone, Copy)]
-struct Open {
-    bytes: [u8; 64],
-    said: show::Said,
-}
-
 // A record with its default path.
-fn write(o: OpenOptions) -> Open {
-    let mut bytes = [0xA5; 64];
-    let p = request::default_connection_path();
-    let said = show::wrote(request::write_forward_open(o, p, b"", &mut bytes));
-    Open { bytes, said }
+fn write(o: OpenOptions, out: &mut [u8]) -> Result<usize, Refusal> {
+    request::write_forward_open(o, request::default_connection_path(), b"", out)
 }
 
-// A part of it, or its refusal.
+// A part of it, from a place on, as long as document 01's; or its refusal.
 fn part(
-    name: &[u8],
+    cards: &mut Cards<'_>,
+    name: &str,
     o: OpenOptions,
     start: usize,
-    len: usize,
-    refusal: u8,
     want: &[u8],
-    said: &[u8],
-    at: usize,
-) -> usize {
-    let open = write(o);
-    let bytes = open.bytes;
-    let refused = open.said.refusal;
-    let mut got = show::bytes_said(len);
-    if refused != 0 {
-        got = show::Said {
-            refusal: refused,
-            len: 0,
-        };
-    }
-    show::card(
-        name,
-        refusal,
-        want,
-        got,
-        wire_read::part_of(&bytes, start, len),
-    );
-    recorded::beside(said, at, want)
+) -> io::Result<()> {
+    let mut out = [BLANK; 64];
+    let ours = match write(o, &mut out) {
+        Ok(_) => Said::Bytes(wire_read::part_of(&out, start, want.len())),
+        Err(e) => Said::refused(e),
+    };
+    cards.card(name, Said::Bytes(want), ours)
 }
 
 fn large() -> OpenOptions {
@@ -67,73 +46,43 @@ fn sized(size: u16) -> OpenOptions {
     o
 }
 
-pub(crate) fn defaults(said: &[u8], from: usize) -> usize {
-    let mut at = from;
+pub(crate) fn defaults(cards: &mut Cards<'_>) -> io::Result<()> {
     let small = connection::default_options(SERIAL);
-    at = part(
-        b"default Forward Open, class and trigger",
+    part(
+        cards,
+        "default Forward Open, class and trigger",
         small,
         34,
-        1,
-        0,
         b"\xA3",
-        said,
-        at,
-    );
-    at = part(
-        b"default Forward Open, parameters",
+    )?;
+    part(
+        cards,
+        "default Forward Open, parameters",
         small,
         26,
-        2,
-        0,
         b"\xF8\x45",
-        said,
-        at,
-    );
-    at = part(
-        b"large, parameters",
-        large(),
-        26,
-        4,
-        0,
-        b"\xF8\x01\x00\x44",
-        said,
-        at,
-    );
-    let open = write(small);
-    let n = open.said.len;
+    )?;
+    part(cards, "large, parameters", large(), 26, b"\xF8\x01\x00\x44")?;
+    let n = write(small, &mut [BLANK; 64]).unwrap_or(0);
     let total = [(n % 256) as u8];
-    show::card(
-        b"small, how many bytes (2A is 42)",
-        0,
-        b"\x2A",
-        show::bytes_said(1),
-        &total,
-    );
-    recorded::beside(said, at, b"\x2A")
+    let want = Said::Bytes(b"\x2A");
+    cards.card(
+        "small, how many bytes (2A is 42)",
+        want,
+        Said::Bytes(&total),
+    )
 }
 
-pub(crate) fn sizes(said: &[u8], from: usize) -> usize {
-    let mut at = from;
-    at = part(
-        b"small connection size 511, parameters",
+pub(crate) fn sizes(cards: &mut Cards<'_>) -> io::Result<()> {
+    part(
+        cards,
+        "small connection size 511, parameters",
         sized(511),
         26,
-        2,
-        0,
         b"\xFF\x45",
-        said,
-        at,
-    );
-    at = part(
-        b"small connection size 512",
-        sized(512),
-        26,
-        2,
-        3,
-        b"",
-        said,
-        at,
-    );
-    at
+    )?;
+    let mut out = [BLANK; 64];
+    let w = write(sized(512), &mut out);
+    let name = "small connection size 512";
+    cards.card(name, Said::Refused(3), Said::wrote(w, &out))
 }

@@ -1,68 +1,59 @@
 // What the program answers has no operation for: the values of src/epath.rs, and the numbers of the refusals.
-use crate::show;
+use crate::show::Said;
 use epath::{Segment, SymbolSegment};
-use wire::{Counted, Refusal, Wrote};
+use std::io;
+use wire::Refusal;
 
-fn yes(b: bool) {
-    if b {
-        show::words(b" yes");
-    } else {
-        show::words(b" no");
+fn yes(b: bool) -> &'static str {
+    if b { "yes" } else { "no" }
+}
+
+// A count, which none of these functions refuses.
+fn count(rt: &impl Print, what: &str, n: Result<usize, Refusal>) -> io::Result<()> {
+    match n {
+        Ok(n) => println!(rt; "{what}: {n}"),
+        Err(_) => println!(rt; "{what}: refused"),
     }
 }
 
-fn count(n: usize) {
-    show::words(b" ");
-    io::print_decimal(1, n as u64);
-}
-
-fn values() {
-    let mut out = [0u8; 4];
-    show::words(b"default_port, written:");
-    match epath::write_segment(Segment::Port(epath::default_port()), b"", &mut out) {
-        Wrote::Size(n) => show::bytes(wire_read::part_of(&out, 0, n)),
-        Wrote::Refused(_) => show::words(b" refused"),
-    }
-    show::words(b"\nblank_path, its size:");
-    match epath::path_size(epath::blank_path(), b"") {
-        Wrote::Size(n) => count(n),
-        Wrote::Refused(_) => show::words(b" refused"),
-    }
-}
-
-pub(crate) fn functions() {
-    values();
-    show::words(b"\nis_port of a port, a class, a symbol:");
-    yes(epath::is_port(Segment::Port(epath::default_port())));
-    yes(epath::is_port(Segment::Class(1)));
-    yes(epath::is_port(Segment::Symbol(SymbolSegment { start: 0, len: 0 })));
+pub(crate) fn functions(rt: &impl Print) -> io::Result<()> {
+    let mut out = [0; 4];
+    let port = Segment::Port(epath::default_port());
+    let symbol = Segment::Symbol(SymbolSegment { start: 0, len: 0 });
     let manager = epath::EPATH_CONNECTION_MANAGER;
-    show::words(b"\nEPATH_CONNECTION_MANAGER:");
-    show::bytes(&manager);
-    show::words(b", segments:");
-    match epath::check_path(&manager) {
-        Counted::Count(n) => count(n),
-        Counted::Refused(_) => show::words(b" refused"),
+    let w = epath::write_segment(port, b"", &mut out);
+    println!(rt; "default_port, written:{}", Said::wrote(w, &out))?;
+    count(
+        rt,
+        "blank_path, its size",
+        epath::path_size(epath::blank_path(), b""),
+    )?;
+    print!(rt;
+        "is_port of a port, a class, a symbol: {}",
+        yes(epath::is_port(port))
+    )?;
+    print!(rt; " {}", yes(epath::is_port(Segment::Class(1))))?;
+    println!(rt; " {}", yes(epath::is_port(symbol)))?;
+    print!(rt; "EPATH_CONNECTION_MANAGER:{}", Said::Bytes(&manager))?;
+    count(rt, ", segments", epath::check_path(&manager))
+}
+
+pub(crate) fn refusals(rt: &impl Print) -> io::Result<()> {
+    print!(rt; "refusal_number, in document 01's order:")?;
+    for e in [
+        Refusal::Short,
+        Refusal::Room,
+        Refusal::Limit,
+        Refusal::Code,
+        Refusal::Form,
+        Refusal::Words,
+        Refusal::Offset,
+        Refusal::Leftover,
+        Refusal::Depth,
+        Refusal::Envelope,
+        Refusal::Outside,
+    ] {
+        print!(rt; " {}", wire::refusal_number(e))?;
     }
-    show::words(b"\n");
-}
-
-fn number(e: Refusal) {
-    count(wire::refusal_number(e) as usize);
-}
-
-pub(crate) fn refusals() {
-    show::words(b"refusal_number, in document 01's order:");
-    number(Refusal::Short);
-    number(Refusal::Room);
-    number(Refusal::Limit);
-    number(Refusal::Code);
-    number(Refusal::Form);
-    number(Refusal::Words);
-    number(Refusal::Offset);
-    number(Refusal::Leftover);
-    number(Refusal::Depth);
-    number(Refusal::Envelope);
-    number(Refusal::Outside);
-    show::words(b"\n");
+    println!(rt)
 }

@@ -1,99 +1,56 @@
-// Words, bytes and answers on standard output.
-use wire::{Refusal, Wrote};
+// An answer as text.
+use std::fmt;
+use wire::Refusal;
 
 // Of a longer run of bytes only both ends are shown.
 const LINE: usize = 48;
 
-// What was answered: document 01's refusal number and no bytes, or 0 and so many bytes.
-#[derive(Clone, Copy)]
-pub struct Said {
-    pub refusal: u8,
-    pub len: usize,
+// What was answered: bytes, or document 01's refusal number.
+#[derive(Clone, Copy, PartialEq, Eq)]
+pub enum Said<'a> {
+    Bytes(&'a [u8]),
+    Refused(u8),
 }
 
-pub(crate) fn bytes_said(len: usize) -> Said {
-    Said { refusal: 0, len }
-}
-
-pub(crate) fn refused_said(e: Refusal) -> Said {
-    Said {
-        refusal: wire::refusal_number(e),
-        len: 0,
+impl<'a> Said<'a> {
+    pub(crate) fn refused(e: Refusal) -> Said<'a> {
+        Said::Refused(wire::refusal_number(e))
     }
-}
 
-pub(crate) fn wrote(w: Wrote) -> Said {
-    match w {
-        Wrote::Size(n) => bytes_said(n),
-        Wrote::Refused(e) => refused_said(e),
-    }
-}
-
-pub(crate) fn words(text: &[u8]) {
-    io::write_all(1, text);
-}
-
-// A byte in two digits, with capital letters, which io::print_hex does not give.
-fn hex(b: u8) {
-    words(&[
-        b' ',
-        hex_digits::hex_digit(b / 16),
-        hex_digits::hex_digit(b),
-    ]);
-}
-
-fn all(s: &[u8]) {
-    for i in 0..s.len() {
-        hex(wire_read::byte_at(s, i));
+    // A writer's answer, whose bytes lie at the front of out.
+    pub(crate) fn wrote(w: Result<usize, Refusal>, out: &'a [u8]) -> Said<'a> {
+        match w {
+            Ok(n) => Said::Bytes(wire_read::part_of(out, 0, n)),
+            Err(e) => Said::refused(e),
+        }
     }
 }
 
 // Of a long run its length, the first four and the last two.
-pub(crate) fn bytes(s: &[u8]) {
-    let n = s.len();
-    if n <= LINE {
-        all(s);
-        return;
-    }
-    words(b" ");
-    io::print_decimal(1, n as u64);
-    words(b" bytes");
-    all(wire_read::part_of(s, 0, 4));
-    words(b" ..");
-    all(wire_read::part_of(s, n - 2, 2));
-}
-
-fn answer(refusal: u8, s: &[u8]) {
-    if refusal == 0 {
-        bytes(s);
-        return;
-    }
-    words(b" refused ");
-    io::print_decimal(1, refusal as u64);
-}
-
-pub(crate) fn same(a: &[u8], b: &[u8]) -> bool {
-    if a.len() != b.len() {
-        return false;
-    }
-    for i in 0..a.len() {
-        if wire_read::byte_at(a, i) != wire_read::byte_at(b, i) {
-            return false;
+impl fmt::Display for Said<'_> {
+    fn fmt<W: fmt::Write>(&self, f: &mut fmt::Formatter<W>) -> fmt::Result {
+        match *self {
+            Said::Refused(n) => write!(f, " refused {n}"),
+            Said::Bytes(s) if s.len() <= LINE => write!(f, "{}", Hex(s)),
+            Said::Bytes(s) => {
+                let n = s.len();
+                let first = Hex(wire_read::part_of(s, 0, 4));
+                let last = Hex(wire_read::part_of(s, n.saturating_sub(2), 2));
+                write!(f, " {n} bytes{first} ..{last}")
+            }
         }
     }
-    true
 }
 
-// A card's line as far as it is ours: its name, document 01's answer, and our own, which lies at the front of out.
-pub(crate) fn card(name: &[u8], refusal: u8, want: &[u8], said: Said, out: &[u8]) {
-    words(name);
-    words(b":");
-    answer(refusal, want);
-    words(b"; we:");
-    let got = wire_read::part_of(out, 0, said.len);
-    if said.refusal == refusal && same(want, got) {
-        words(b" the same");
-        return;
+// Bytes in hex, each with a space before it.
+#[derive(Clone, Copy)]
+struct Hex<'a>(&'a [u8]);
+
+impl fmt::Display for Hex<'_> {
+    fn fmt<W: fmt::Write>(&self, f: &mut fmt::Formatter<W>) -> fmt::Result {
+        for b in self.0 {
+            write!(f, " {b:02X}")?;
+        }
+        Ok(())
     }
-    answer(said.refusal, got);
 }

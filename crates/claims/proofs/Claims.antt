@@ -40,13 +40,21 @@ use Rattle.epath_read.specs.contracts.read_path
 use Rattle.epath_read.proofs.Exact as EpathRead
 use Rattle.connection.specs.contracts.default_parameters
 use Rattle.connection.specs.contracts.default_options
+use Rattle.connection.specs.contracts.ConnectionTypeTryFromU8.try_from as connection_type
+use Rattle.connection.specs.contracts.PriorityTryFromU8.try_from as priority
+use Rattle.connection.specs.contracts.DirectionFromBool.from as direction
+use Rattle.connection.specs.contracts.TriggerTypeTryFromU8.try_from as trigger
+use Rattle.connection.specs.contracts.TransportClassTryFromU8.try_from as class
+use Rattle.connection.specs.contracts.VariableLengthFromBool.from as variable
 use Rattle.connection.specs.contracts.priority_tick_time
 use Rattle.connection.proofs.Exact as Connection
 use Rattle.connection_words.specs.contracts.encode_parameters
 use Rattle.connection_words.specs.contracts.decode_parameters
+use Rattle.connection_words.specs.contracts.parameter_width
 use Rattle.connection_words.proofs.Exact as ConnectionWords
 use Rattle.transport_words.specs.contracts.transport_class_trigger
 use Rattle.transport_words.specs.contracts.transport_of
+use Rattle.transport_words.specs.contracts.transport_byte
 use Rattle.transport_words.proofs.Exact as TransportWords
 use Rattle.triads.specs.contracts.put_triad
 use Rattle.triads.proofs.Exact as Triads
@@ -55,6 +63,8 @@ use Rattle.route.proofs.Exact as Route
 use Rattle.default_path.specs.contracts.default_connection_path
 use Rattle.default_path.proofs.Exact as DefaultPath
 use Rattle.open_sizes.specs.contracts.forward_open_size
+use Rattle.open_sizes.specs.contracts.open_base
+use Rattle.open_sizes.specs.contracts.front_size
 use Rattle.open_sizes.proofs.Exact as OpenSizes
 use Rattle.close_sizes.specs.contracts.forward_close_size
 use Rattle.close_sizes.proofs.Exact as CloseSizes
@@ -240,13 +250,21 @@ pub record Claims : Type 2 where
   -- connection
   pub default_parameters : Exact default_parameters.ended (λ _ _. default_parameters.clauses)
   pub default_options : Exact default_options.ended (λ _ _. default_options.clauses)
+  pub connection_type : Exact connection_type.ended (λ _ _. connection_type.clauses)
+  pub priority : Exact priority.ended (λ _ _. priority.clauses)
+  pub direction : Exact direction.ended (λ _ _. direction.clauses)
+  pub trigger : Exact trigger.ended (λ _ _. trigger.clauses)
+  pub class : Exact class.ended (λ _ _. class.clauses)
+  pub variable : Exact variable.ended (λ _ _. variable.clauses)
   pub priority_tick_time : Exact priority_tick_time.ended (λ _ _. priority_tick_time.clauses)
   -- connection_words
   pub encode_parameters : Exact encode_parameters.ended (λ _ _. encode_parameters.clauses)
   pub decode_parameters : Exact decode_parameters.ended (λ _ _. decode_parameters.clauses)
+  pub parameter_width : Exact parameter_width.ended (λ _ _. parameter_width.clauses)
   -- transport_words
   pub transport_class_trigger : Exact transport_class_trigger.ended (λ _ _. transport_class_trigger.clauses)
   pub transport_of : Exact transport_of.ended (λ _ _. transport_of.clauses)
+  pub transport_byte : Exact transport_byte.ended (λ _ _. transport_byte.clauses)
   -- triads
   pub put_triad : Exact put_triad.ended (λ _ _. put_triad.clauses)
   -- route
@@ -255,6 +273,8 @@ pub record Claims : Type 2 where
   pub default_connection_path : Exact default_connection_path.ended (λ _ _. default_connection_path.clauses)
   -- open_sizes
   pub forward_open_size : Exact forward_open_size.ended (λ _ _. forward_open_size.clauses)
+  pub open_base : Exact open_base.ended (λ _ _. open_base.clauses)
+  pub front_size : Exact front_size.ended (λ _ _. front_size.clauses)
   -- close_sizes
   pub forward_close_size : Exact forward_close_size.ended (λ _ _. forward_close_size.clauses)
   -- open_encode
@@ -429,15 +449,25 @@ claims =
       read_path = EpathRead.read_path_exact;
       default_parameters = Connection.default_parameters_exact;
       default_options = Connection.default_options_exact;
+      connection_type = Connection.connection_type_exact;
+      priority = Connection.priority_exact;
+      direction = Connection.direction_exact;
+      trigger = Connection.trigger_exact;
+      class = Connection.class_exact;
+      variable = Connection.variable_exact;
       priority_tick_time = Connection.priority_tick_time_exact;
       encode_parameters = ConnectionWords.encode_parameters_exact;
       decode_parameters = ConnectionWords.decode_parameters_exact;
+      parameter_width = ConnectionWords.parameter_width_exact;
       transport_class_trigger = TransportWords.transport_class_trigger_exact;
       transport_of = TransportWords.transport_of_exact;
+      transport_byte = TransportWords.transport_byte_exact;
       put_triad = Triads.put_triad_exact;
       route_size = Route.route_size_exact;
       default_connection_path = DefaultPath.default_connection_path_exact;
       forward_open_size = OpenSizes.forward_open_size_exact;
+      open_base = OpenSizes.open_base_exact;
+      front_size = OpenSizes.front_size_exact;
       forward_close_size = CloseSizes.forward_close_size_exact;
       write_forward_open = OpenEncode.write_forward_open_exact;
       write_forward_open_over = OpenEncode.write_forward_open_over_exact;

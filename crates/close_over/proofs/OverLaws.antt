@@ -6,13 +6,10 @@ use native.Mathlib.Omega.{arith}
 use lib.ListN.{length}
 use mir.Val.{Fits}
 use mir.Syntax.{w64}
+use Rattle.std.specs.Prelude.{Result, Ok, Err}
 use Rattle.wire.specs.Refusals.{number}
-use Rattle.wire.specs.Answers.{done, refused, paper_size, paper_count}
+use Rattle.wire.specs.Answers.{done, refused, paper}
 use Rattle.wire.specs.declared.Refusal.{Refusal}
-use Rattle.wire.specs.declared.Wrote.{Wrote}
-use Rattle.wire.specs.declared.Wrote.TheVariants.{Size}
-use Rattle.wire.specs.declared.Counted.{Counted}
-use Rattle.wire.specs.declared.Counted.TheVariants.{Count, Refused}
 use Rattle.connection.specs.Limits.{max_path}
 use Rattle.connection.specs.declared.ForwardCloseRequest.{ForwardCloseRequest}
 use Rattle.connection_words.specs.Requests.{close_bytes}
@@ -22,12 +19,12 @@ use Rattle.route_written.proofs.WrittenLaws.{over_stops, over_goes, over_short, 
 use Rattle.close_over.specs.Over.{close_over_size}
 
 -- ---- forwards: from the path's judgement
-module _ (path : List ℕ) (w : Counted) (is : paper_count w ≡ written_route path) where
-  pub close_over_stops : (e : Refusal) → w ≡ Refused e → refused (number e) ≡ close_over_size path
+module _ (path : List ℕ) (w : Result ℕ Refusal) (is : paper w ≡ written_route path) where
+  pub close_over_stops : (e : Refusal) → w ≡ Err e → refused (number e) ≡ close_over_size path
   unfolding close_over_size
   close_over_stops e h = over_stops path w is _ e h
 
-  module _ (n : ℕ) (h : w ≡ Count n) where
+  module _ (n : ℕ) (h : w ≡ Ok n) where
     pub close_over_fits : Fits w64 (12 + n)
     close_over_fits = record { fits = omega (arith, over_short path w is n h) }
 
@@ -38,10 +35,10 @@ module _ (path : List ℕ) (w : Counted) (is : paper_count w ≡ written_route p
 pub ruleset over_laws = (close_over_stops, close_over_fits, close_over_is)
 
 -- ---- backwards: a size that was answered
-module _ (path : List ℕ) (r : Wrote) (size : ℕ) (h : r ≡ Size size) (is : paper_size r ≡ close_over_size path) where
+module _ (path : List ℕ) (r : Result ℕ Refusal) (size : ℕ) (h : r ≡ Ok size) (is : paper r ≡ close_over_size path) where
   was : Over path (λ n. done (12 + n)) size
   unfolding close_over_size
-  was = over_was path (λ n. done (12 + n)) size (sym is ∙ ap paper_size h)
+  was = over_was path (λ n. done (12 + n)) size (sym is ∙ ap paper h)
 
   pub close_over_short : length path ≤ max_path
   close_over_short = was.short

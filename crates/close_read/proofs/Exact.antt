@@ -1,18 +1,24 @@
 -- Each public function takes every argument, and its contract leaves one answer.
 -- Assumes nothing.
 use mathlib.Core.Path.{◌≡◌, refl, ap}
+use Rattle.std.specs.Prelude.{Result, Ok, Err}
 use Rattle.exact.specs.Exact.{Exact, exact, says, same}
-use Rattle.wire.proofs.Answers.{one_by, number_back, from_paper}
-use Rattle.close_read.specs.Reads.{closed, paper_close}
+use Rattle.wire.specs.Answers.{Answer, done, refused}
+use Rattle.wire.specs.declared.Refusal.{Refusal}
+use Rattle.wire.proofs.Answers.{one_by, refusal_of, number_back}
+use Rattle.close_read.specs.Reads.{Closed, closed, paper_close}
 use Rattle.close_read.specs.declared.CloseRead.{CloseRead}
-use Rattle.close_read.specs.declared.CloseRead.TheVariants.{Found as FoundClose, Refused as NoClose}
 use Rattle.close_read.specs.contracts.read_forward_close
 
 -- ---- an answer's form on paper says which answer it is
 
-pub close_one : (a b : CloseRead) → paper_close a ≡ paper_close b → a ≡ b
-close_one =
-    one_by paper_close (from_paper (elim [ closed c k n ↦ FoundClose c k n ]) NoClose) (elim [ FoundClose c k n ↦ refl | NoClose e ↦ ap NoClose (number_back e) ])
+from_close : Answer Closed → Result CloseRead Refusal
+from_close (done (closed c start len)) = Ok (record { request = c; path_start = start; path_len = len })
+from_close (refused k) = Err (refusal_of k)
+
+pub close_one : (a b : Result CloseRead Refusal) → paper_close a ≡ paper_close b → a ≡ b
+unfolding from_close
+close_one = one_by paper_close from_close (elim [ Ok c ↦ refl | Err e ↦ ap Err (number_back e) ])
 
 -- ---- the reader
 

@@ -1,14 +1,14 @@
 -- The reader of Forward Close (CIP Volume 1, 3-5.5.3), executable: fields in wire order, the first broken rule refuses. Rules and numbers from
 -- document 01, "Requests". Assumes nothing: these are definitions.
-use Rattle.std.specs.Prelude.{ℕ, List, get_or, drop}
+use Rattle.std.specs.Prelude.{ℕ, List, get_or, drop, Result, Ok, Err}
 use Rattle.wire.specs.Numbers.{value_of}
 use Rattle.wire.specs.Refusals.{number}
+use Rattle.wire.specs.declared.Refusal.{Refusal}
 use Rattle.wire.specs.Answers.{Answer, done, refused, and_then, judged}
 use Rattle.request_first.specs.Firsts.{first_rules}
 use Rattle.message_read.specs.Reads.{padded_route_at}
 use Rattle.connection.specs.declared.ForwardCloseRequest.{ForwardCloseRequest}
 use Rattle.close_read.specs.declared.CloseRead.{CloseRead}
-use Rattle.close_read.specs.declared.CloseRead.TheVariants.{Found as FoundClose, Refused as NoClose}
 
 -- ---- Forward Close (3-5.5.3): ten bytes, path size, a reserved byte, path
 
@@ -30,6 +30,6 @@ read_close s = judged (first_rules s) (and_then (padded_route_at s 10) (λ len. 
 
 -- ---- what the function answers
 
-abbrev pub paper_close : CloseRead → Answer Closed
-paper_close (FoundClose c start len) = done (closed c start len)
-paper_close (NoClose e) = refused (number e)
+abbrev pub paper_close : Result CloseRead Refusal → Answer Closed
+paper_close (Ok c) = done (closed c.request c.path_start c.path_len)
+paper_close (Err e) = refused (number e)

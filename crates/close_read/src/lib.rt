@@ -7,15 +7,16 @@ ghost use Rattle.close_read.specs.Reads.{close_at, paper_close, read_close};
 
 use connection::ForwardCloseRequest;
 use message_read::padded_route_at;
-use request_first::{Judged, first_byte};
-use wire::{Counted, Refusal};
+use request_first::first_byte;
+use wire::Refusal;
 use wire_read::{byte_at, u16_at, u32_at};
 
-// The record, and start and length of its path.
+// The record, and start and length of its path in the input.
 #[derive(Clone, Copy)]
-pub enum CloseRead {
-    Found(ForwardCloseRequest, usize, usize),
-    Refused(Refusal),
+pub struct CloseRead {
+    pub request: ForwardCloseRequest,
+    pub path_start: usize,
+    pub path_len: usize,
 }
 
 fn close_at(s: &[u8]) -> ForwardCloseRequest
@@ -31,17 +32,15 @@ fn close_at(s: &[u8]) -> ForwardCloseRequest
 }
 
 // Reads a Forward Close.
-pub fn read_forward_close(s: &[u8]) -> CloseRead
+#[tactic(auto, using(crate::proofs::ReadLaws::close_laws))]
+pub fn read_forward_close(s: &[u8]) -> Result<CloseRead, Refusal>
     ensures { paper_close result ≡ read_close s.now }
 {
-    match first_byte(s) {
-        Judged::Refused(e) => CloseRead::Refused(e),
-        Judged::Kept => match padded_route_at(s, 10) {
-            Counted::Refused(e) => CloseRead::Refused(e),
-            Counted::Count(len) => {
-                let c = close_at(s);
-                CloseRead::Found(c, 12, len)
-            }
-        },
-    }
+    first_byte(s)?;
+    let path_len = padded_route_at(s, 10)?;
+    Ok(CloseRead {
+        request: close_at(s),
+        path_start: 12,
+        path_len,
+    })
 }

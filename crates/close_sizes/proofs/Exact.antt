@@ -1,8 +1,8 @@
 -- Each public function takes every argument, and its contract leaves one answer. Assumes nothing.
 use mathlib.Core.Path.{refl}
 use Rattle.exact.specs.Exact.{Exact, exact, says, same}
-use Rattle.wire.proofs.Answers.{size_one}
+use Rattle.wire.proofs.Answers.{answer_one}
 use Rattle.close_sizes.specs.contracts.forward_close_size
 
 pub forward_close_size_exact : Exact forward_close_size.ended (λ _ _. forward_close_size.clauses)
-forward_close_size_exact = exact (λ w κs a. (tt, λ m. tt)) (λ w κs a g z e. search says) (λ t. (size_one t.z t.z' (same t.said t.said'), refl))
+forward_close_size_exact = exact (λ w κs a. (tt, λ m. tt)) (λ w κs a g z e. search says) (λ t. (answer_one t.z t.z' (same t.said t.said'), refl))

@@ -2,19 +2,18 @@
 #![tactic(auto)]
 
 ghost use Rattle.std.specs.Prelude.{◌≡◌};
-ghost use Rattle.wire.specs.Answers.{paper_size};
+ghost use Rattle.wire.specs.Answers.{paper};
 ghost use Rattle.close_sizes.specs.Sizes.{close_size};
 
 use epath_sizes::Path;
 use route::route_size;
-use wire::Wrote;
+use wire::Refusal;
 
 // How many bytes a Forward Close takes.
-pub fn forward_close_size(p: Path, pool: &[u8]) -> Wrote
-    ensures { paper_size result ≡ close_size pool.now p }
+#[tactic(auto, using(crate::proofs::SizeLaws::size_laws))]
+pub fn forward_close_size(p: Path, pool: &[u8]) -> Result<usize, Refusal>
+    ensures { paper result ≡ close_size pool.now p }
 {
-    match route_size(p, pool) {
-        Wrote::Refused(e) => Wrote::Refused(e),
-        Wrote::Size(n) => Wrote::Size(12 + n),
-    }
+    let n = route_size(p, pool)?;
+    Ok(12 + n)
 }

@@ -1,2 +1,2 @@
-pub mod DefaultLaws
+pub mod CodeLaws
 pub mod Exact

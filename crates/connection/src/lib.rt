@@ -3,7 +3,11 @@
 #![tactic(auto)]
 
 ghost use Rattle.std.specs.Prelude.{◌≡◌};
+ghost use Rattle.wire.specs.Answers.{paper};
+ghost use Rattle.connection.specs.Codes.{bit, last_type, last_priority, last_trigger, last_class, variable_of, direction_of, type_of, priority_of, trigger_of, class_of, coded};
 ghost use Rattle.connection.specs.Defaults.{default_parameters, default_options, masked};
+
+use wire::Refusal;
 
 // ---- limits, each beside its twin in specs/Limits.antt
 
@@ -21,44 +25,105 @@ pub const MAX_SMALL_SIZE: u16 = 511;
 
 pub const MAX_LARGE_SIZE: u16 = 65535;
 
-// ---- enums
+// ---- enums, each with the numbers that stand for it in its field; a reserved number is a code that is refused
 
 #[derive(Clone, Copy)]
 pub enum ConnectionType {
     // may be used to reconfigure the connection
-    Null,
+    Null = 0,
     // transport classes 0 and 1
     Multicast,
     // point to point
     P2P,
 }
 
+impl TryFrom<u8> for ConnectionType {
+    type Error = Refusal;
+
+    ghost try_from_gives = { λ n r. paper r ≡ coded last_type type_of n };
+
+    #[tactic(auto, using(crate::proofs::CodeLaws::code_laws))]
+    fn try_from(n: u8) -> Result<ConnectionType, Refusal> {
+        match n {
+            0 => Ok(ConnectionType::Null),
+            1 => Ok(ConnectionType::Multicast),
+            2 => Ok(ConnectionType::P2P),
+            _ => Err(Refusal::Code),
+        }
+    }
+}
+
 #[derive(Clone, Copy)]
 pub enum Priority {
-    Low,
+    Low = 0,
     High,
     Scheduled,
     Urgent,
 }
 
+impl TryFrom<u8> for Priority {
+    type Error = Refusal;
+
+    ghost try_from_gives = { λ n r. paper r ≡ coded last_priority priority_of n };
+
+    #[tactic(auto, using(crate::proofs::CodeLaws::code_laws))]
+    fn try_from(n: u8) -> Result<Priority, Refusal> {
+        match n {
+            0 => Ok(Priority::Low),
+            1 => Ok(Priority::High),
+            2 => Ok(Priority::Scheduled),
+            3 => Ok(Priority::Urgent),
+            _ => Err(Refusal::Code),
+        }
+    }
+}
+
 #[derive(Clone, Copy)]
 pub enum Direction {
-    Client,
+    Client = 0,
     Server,
+}
+
+impl From<bool> for Direction {
+    ghost from_gives = { λ b d. d ≡ direction_of (bit b) };
+
+    fn from(server: bool) -> Direction {
+        if server {
+            Direction::Server
+        } else {
+            Direction::Client
+        }
+    }
 }
 
 #[derive(Clone, Copy)]
 pub enum TriggerType {
-    Cyclic,
+    Cyclic = 0,
     ChangeOfState,
     // application object
     Application,
 }
 
+impl TryFrom<u8> for TriggerType {
+    type Error = Refusal;
+
+    ghost try_from_gives = { λ n r. paper r ≡ coded last_trigger trigger_of n };
+
+    #[tactic(auto, using(crate::proofs::CodeLaws::code_laws))]
+    fn try_from(n: u8) -> Result<TriggerType, Refusal> {
+        match n {
+            0 => Ok(TriggerType::Cyclic),
+            1 => Ok(TriggerType::ChangeOfState),
+            2 => Ok(TriggerType::Application),
+            _ => Err(Refusal::Code),
+        }
+    }
+}
+
 // A 16-bit sequence count stands before the data of classes 1, 2 and 3.
 #[derive(Clone, Copy)]
 pub enum TransportClass {
-    Class0,
+    Class0 = 0,
     Class1,
     Class2,
     Class3,
@@ -70,10 +135,42 @@ pub enum TransportClass {
     Class6,
 }
 
+impl TryFrom<u8> for TransportClass {
+    type Error = Refusal;
+
+    ghost try_from_gives = { λ n r. paper r ≡ coded last_class class_of n };
+
+    #[tactic(auto, using(crate::proofs::CodeLaws::code_laws))]
+    fn try_from(n: u8) -> Result<TransportClass, Refusal> {
+        match n {
+            0 => Ok(TransportClass::Class0),
+            1 => Ok(TransportClass::Class1),
+            2 => Ok(TransportClass::Class2),
+            3 => Ok(TransportClass::Class3),
+            4 => Ok(TransportClass::Class4),
+            5 => Ok(TransportClass::Class5),
+            6 => Ok(TransportClass::Class6),
+            _ => Err(Refusal::Code),
+        }
+    }
+}
+
 #[derive(Clone, Copy)]
 pub enum VariableLength {
-    Fixed,
+    Fixed = 0,
     Variable,
+}
+
+impl From<bool> for VariableLength {
+    ghost from_gives = { λ b v. v ≡ variable_of (bit b) };
+
+    fn from(variable: bool) -> VariableLength {
+        if variable {
+            VariableLength::Variable
+        } else {
+            VariableLength::Fixed
+        }
+    }
 }
 
 // ---- records; a path stands beside its record, as a list to write and as a part of the input when read, and so does application data, as bytes
@@ -147,19 +244,13 @@ pub struct ForwardCloseSuccess {
     pub originator_serial_number: u32,
 }
 
-// In words; only routing errors have one.
-#[derive(Clone, Copy)]
-pub enum RemainingPathSize {
-    Absent,
-    Words(u8),
-}
-
 #[derive(Clone, Copy)]
 pub struct ForwardRequestFail {
     pub connection_serial_number: u16,
     pub originator_vendor_id: u16,
     pub originator_serial_number: u32,
-    pub remaining_path_size: RemainingPathSize,
+    // in words; only routing errors have one
+    pub remaining_path_size: Option<u8>,
 }
 
 // ---- defaults, and the setter

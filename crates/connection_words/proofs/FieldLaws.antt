@@ -1,18 +1,22 @@
 -- Each end of the code for fields of several bits, as a law with plain conditions. Assumes nothing.
 use Prim.Native.Nat.{ℕ, zero, suc, ◌+◌, ◌*◌, ◌/◌, ◌%◌, ◌^◌, ◌≤◌, ◌<◌}
-use mathlib.Core.Path.{◌≡◌, refl, ap}
+use mathlib.Core.Path.{◌≡◌, refl, sym, ap, ◌∙◌}
 use mathlib.Core.Bool.{Bool, true, false}
 use mathlib.Core.Logic.{⊎_elim}
 use native.Mathlib.Omega.{arith}
 use lib.Dec.{eqb}
 use mir.Val.{Fits}
 use mir.Syntax.{w32}
-use Rattle.wire.specs.Answers.{done, refused}
+use Rattle.std.specs.Prelude.{Result, Ok, Err, IsOk}
+use Rattle.wire.specs.Refusals.{number}
+use Rattle.wire.specs.declared.Refusal.{Refusal}
+use Rattle.wire.specs.Answers.{Answer, done, refused, paper}
 use Rattle.wire.proofs.Rules.{rules}
 use Rattle.wire.proofs.Numbers.{below_or}
-use Rattle.connection_words.specs.Codes.{bit, variable_number, priority_number, type_number, direction_number, trigger_number, class_number, variable_of, priority_of, type_of, direction_of, trigger_of, class_of}
+use Rattle.connection.specs.Codes.{last_type, last_priority, last_trigger, last_class, bit, variable_number, priority_number, type_number, direction_number, trigger_number, class_number, variable_of, priority_of, type_of, direction_of, trigger_of, class_of, coded}
+use Rattle.connection.proofs.CodeLaws.{coded_was, coded_over}
 use Rattle.connection.specs.Limits.{size_limit}
-use Rattle.connection_words.specs.Fields.{unit, flags_of, word_of, parameter_word, parameters_of, read_parameters, class_trigger, transport, read_transport}
+use Rattle.connection_words.specs.Fields.{unit, flags_of, word_of, parameter_word, parameters_of, read_parameters, transport_byte, class_trigger, transport, read_transport}
 use Rattle.connection.specs.declared.ConnectionType.{ConnectionType}
 use Rattle.connection.specs.declared.ConnectionType.TheVariants.{Null, Multicast, P2P}
 use Rattle.connection.specs.declared.Priority.{Priority}
@@ -139,13 +143,6 @@ module _ (large : Bool) (p : ConnectionParameters) (l : ℕ) (is : l ≡ size_li
         sum true e k = rw k (omega arith)
 
 -- ---- the word's parts
-module _ (size flags : ℕ) where
-  pub parts_are : (t : ConnectionType) (v : VariableLength) (q : Priority) (o : Bool)
-      → t ≡ type_of (flags / 16 % 4) → v ≡ variable_of (flags % 2) → q ≡ priority_of (flags / 2 % 4) → o ≡ eqb (flags / 64 % 2) 1
-      → record { redundant_owner = o; connection_type = t; variable_length = v; priority = q; connection_size = size } ≡ parameters_of size flags
-  unfolding parameters_of
-  parts_are t v q o a b c d = rw (a, b, c, d)
-
 module _ (large : Bool) (w l u : ℕ) (is : l ≡ size_limit large) (of : u ≡ unit large) where
   pub read_size : l < w % u → refused 5 ≡ read_parameters large w
   unfolding read_parameters
@@ -171,39 +168,73 @@ module _ (large : Bool) (w l u : ℕ) (is : l ≡ size_limit large) (of : u ≡ 
         none_kept : w / unit large / 8 % 2 ≡ 0
         none_kept = rw (← of) none
 
-        pub read_type : 2 < w / u / 16 % 4 → refused 4 ≡ read_parameters large w
+        pub read_type : (k : ℕ) → refused k ≡ coded last_type type_of (w / u / 16 % 4) → refused k ≡ read_parameters large w
         unfolding read_parameters
-        read_type h = let g : 2 < w / unit large / 16 % 4 = rw (← of) h in search (rules, size_kept, flags_kept, none_kept)
+        read_type k h =
+            let o = coded_over last_type type_of (w / u / 16 % 4) k (sym h) in
+            let g : 2 < w / unit large / 16 % 4 = rw (← of) o.0 in
+            let d : refused 4 ≡ read_parameters large w = search (rules, size_kept, flags_kept, none_kept) in
+            rw (o.1) d
 
-        pub read_parts : w / u / 16 % 4 ≤ 2 → (p : ConnectionParameters) → p ≡ parameters_of (w % u) (w / u) → done p ≡ read_parameters large w
-        unfolding read_parameters
-        read_parts h p e =
-            let g : w / unit large / 16 % 4 ≤ 2 = rw (← of) h in
-            let d : done p ≡ done (parameters_of (w % unit large) (w / unit large)) = rw (← of) (ap done e) in
+        pub read_parts : (k : ConnectionType) (y : Priority) (v : VariableLength)
+            → done k ≡ coded last_type type_of (w / u / 16 % 4) → done y ≡ coded last_priority priority_of (w / u / 2 % 4) → v ≡ variable_of (bit (eqb (w / u % 2) 1))
+            → done (record { redundant_owner = eqb (w / u / 64 % 2) 1; connection_type = k; variable_length = v; priority = y; connection_size = w % u }) ≡ read_parameters large w
+        unfolding read_parameters parameters_of
+        read_parts k y v a b c =
+            let i = coded_was last_type type_of (w / u / 16 % 4) k (sym a) in
+            let j = coded_was last_priority priority_of (w / u / 2 % 4) y (sym b) in
+            let g : w / unit large / 16 % 4 ≤ 2 = rw (← of) i.0 in
+            let d : done (record { redundant_owner = eqb (w / u / 64 % 2) 1; connection_type = k; variable_length = v; priority = y; connection_size = w % u }) ≡ done (parameters_of (w % unit large) (w / unit large)) =
+            rw (← of, ← i.1, ← j.1, c, bit_code.again (w / u % 2) (omega arith)) in
             search (rules, size_kept, flags_kept, none_kept)
 
+-- an answer of the code, on paper
+pub told : {A : Type 0} (t : Result A Refusal) (k : A) (x : Answer A) → t ≡ Ok k → paper t ≡ x → done k ≡ x
+told t k x h is = sym (ap paper h) ∙ is
+
+-- two bits are none past the last
+pub priority_named : (q : Result Priority Refusal) (n : ℕ) → paper q ≡ coded last_priority priority_of n → n ≤ 3 → IsOk q
+priority_named (Ok p) n h l = refl
+priority_named (Err e) n h l =
+    let k = coded_over last_priority priority_of n (number e) (sym h) in
+    absurd (omega (arith, k.0))
+
 -- ---- class and trigger
-module _ (o : OpenOptions) (d t c : ℕ)
-    (a : d ≡ direction_number o.transport_direction) (b : t ≡ trigger_number o.transport_trigger) (e : c ≡ class_number o.transport_class) where
-  pub trigger_is : 128 * d + 16 * t + c ≡ class_trigger o
-  unfolding class_trigger
-  trigger_is = rw (a, b, e)
+pub trigger_is : (o : OpenOptions) → transport_byte o.transport_direction o.transport_trigger o.transport_class ≡ class_trigger o
+unfolding class_trigger
+trigger_is o = refl
 
 module _ (x : ℕ) where
-  pub transport_trigger_lem : 2 < x / 16 % 8 → refused 4 ≡ read_transport x
+  pub transport_trigger_lem : (k : ℕ) → refused k ≡ coded last_trigger trigger_of (x / 16 % 8) → refused k ≡ read_transport x
   unfolding read_transport
-  transport_trigger_lem h = search rules
+  transport_trigger_lem k h =
+      let o = coded_over last_trigger trigger_of (x / 16 % 8) k (sym h) in
+      let g : 2 < x / 16 % 8 = o.0 in
+      let d : refused 4 ≡ read_transport x = search rules in
+      rw (o.1) d
 
-  pub transport_class_lem : x / 16 % 8 ≤ 2 → 6 < x % 16 → refused 4 ≡ read_transport x
-  unfolding read_transport
-  transport_class_lem h g = search rules
+  module _ (i : TriggerType) (is : done i ≡ coded last_trigger trigger_of (x / 16 % 8)) where
+    kept : (x / 16 % 8 ≤ 2) × (trigger_of (x / 16 % 8) ≡ i)
+    kept = coded_was last_trigger trigger_of (x / 16 % 8) i (sym is)
 
-  pub transport_is : (d : Direction) (t : TriggerType) (c : TransportClass) → x / 16 % 8 ≤ 2 → x % 16 ≤ 6
-      → d ≡ direction_of (x / 128) → t ≡ trigger_of (x / 16 % 8) → c ≡ class_of (x % 16) → done (transport d t c) ≡ read_transport x
-  unfolding read_transport
-  transport_is d t c h g a b e =
-      let f : done (transport d t c) ≡ done (transport (direction_of (x / 128)) (trigger_of (x / 16 % 8)) (class_of (x % 16))) = rw (a, b, e) in
-      search rules
+    pub transport_class_lem : (k : ℕ) → refused k ≡ coded last_class class_of (x % 16) → refused k ≡ read_transport x
+    unfolding read_transport
+    transport_class_lem k h =
+        let o = coded_over last_class class_of (x % 16) k (sym h) in
+        let g : 6 < x % 16 = o.0 in
+        let f : x / 16 % 8 ≤ 2 = kept.0 in
+        let d : refused 4 ≡ read_transport x = search rules in
+        rw (o.1) d
+
+    pub transport_is : x < 256 → (j : TransportClass) → done j ≡ coded last_class class_of (x % 16) → (d : Direction) → d ≡ direction_of (bit (eqb (x / 128) 1)) → done (transport d i j) ≡ read_transport x
+    unfolding read_transport
+    transport_is l j h d a =
+        let k = coded_was last_class class_of (x % 16) j (sym h) in
+        let g : x % 16 ≤ 6 = k.0 in
+        let f : x / 16 % 8 ≤ 2 = kept.0 in
+        let b : bit (eqb (x / 128) 1) ≡ x / 128 = bit_code.again (x / 128) (omega arith) in
+        let y : done (transport d i j) ≡ done (transport (direction_of (x / 128)) (trigger_of (x / 16 % 8)) (class_of (x % 16))) = rw (a, b, kept.1, k.1) in
+        search rules
 
 pub ruleset field_laws =
-    (flags_are, flags_few, word_over, word_is, word_scaled, word_fits, parts_are, read_size, read_past, read_reserved, read_type, read_parts, trigger_is, transport_trigger_lem, transport_class_lem, transport_is)
+    (flags_are, flags_few, word_over, word_is, word_scaled, word_fits, read_size, read_past, read_reserved, read_type, priority_named, told, read_parts, trigger_is, transport_trigger_lem, transport_class_lem, transport_is)

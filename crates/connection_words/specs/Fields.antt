@@ -1,6 +1,8 @@
 -- The fields of several bits, as sums of their parts. CIP Volume 1, 3-5.5.1.1 (network connection parameters, 16 and 32 bits) and 3-4.4.3
 -- (transport class and trigger). Refusals: document 01, "Requests". Assumes nothing: these are definitions.
 use Rattle.std.specs.Prelude.{ℕ, ◌+◌, ◌*◌, ◌/◌, ◌%◌, List, [], ◌∷◌, Bool, true, false, eqb}
+use Rattle.std.specs.Prelude.{Result, Ok, Err}
+use Rattle.wire.specs.declared.Refusal.{Refusal}
 use Rattle.wire.specs.Refusals.{number}
 use Rattle.wire.specs.Answers.{Answer, done, refused, Rule, over, other, judged}
 use Rattle.connection.specs.Limits.{size_limit}
@@ -10,12 +12,7 @@ use Rattle.connection.specs.declared.OpenOptions.{OpenOptions}
 use Rattle.connection.specs.declared.Direction.{Direction}
 use Rattle.connection.specs.declared.TriggerType.{TriggerType}
 use Rattle.connection.specs.declared.TransportClass.{TransportClass}
-use Rattle.connection_words.specs.declared.Word.{Word}
-use Rattle.connection_words.specs.declared.Word.TheVariants.{Bits, Refused as NoWord}
-use Rattle.connection_words.specs.declared.ParametersRead.{ParametersRead}
-use Rattle.connection_words.specs.declared.ParametersRead.TheVariants.{Found as FoundParameters, Refused as NoParameters}
 use Rattle.connection_words.specs.declared.TransportRead.{TransportRead}
-use Rattle.connection_words.specs.declared.TransportRead.TheVariants.{Found as FoundTransport, Refused as NoTransport}
 
 -- ---- connection parameters: the size in the low bits, and seven bits of flags at the top. A small word has 16 bits, a large one 32
 
@@ -62,6 +59,9 @@ read_parameters large w = judged (word_rules large w) (done (parameters_of (w % 
 
 -- ---- class and trigger: direction in bit 7, trigger in bits 4 to 6, class in the low four
 
+abbrev pub transport_byte : Direction → TriggerType → TransportClass → ℕ
+transport_byte d t c = 128 * direction_number d + 16 * trigger_number t + class_number c
+
 unfoldable pub class_trigger : OpenOptions → ℕ
 class_trigger o = 128 * direction_number o.transport_direction + 16 * trigger_number o.transport_trigger + class_number o.transport_class
 
@@ -74,16 +74,8 @@ transport_rules b = over (b / 16 % 8) last_trigger 4 ∷ over (b % 16) last_clas
 unfoldable pub read_transport : ℕ → Answer Transport
 read_transport b = judged (transport_rules b) (done (transport (direction_of (b / 128)) (trigger_of (b / 16 % 8)) (class_of (b % 16))))
 
--- ---- what the functions answer
+-- ---- what the function answers
 
-abbrev pub paper_word : Word → Answer ℕ
-paper_word (Bits n) = done n
-paper_word (NoWord e) = refused (number e)
-
-abbrev pub paper_parameters : ParametersRead → Answer ConnectionParameters
-paper_parameters (FoundParameters p) = done p
-paper_parameters (NoParameters e) = refused (number e)
-
-abbrev pub paper_transport : TransportRead → Answer Transport
-paper_transport (FoundTransport d t c) = done (transport d t c)
-paper_transport (NoTransport e) = refused (number e)
+abbrev pub paper_transport : Result TransportRead Refusal → Answer Transport
+paper_transport (Ok t) = done (transport t.direction t.trigger t.class)
+paper_transport (Err e) = refused (number e)

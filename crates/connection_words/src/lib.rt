@@ -2,28 +2,15 @@
 // transport_words, whose answer is declared here beside its definition.
 #![tactic(auto)]
 
-mod codes; // codes.rt: the enums as numbers, and back
 mod fields; // fields.rt: connection parameters
 
-use connection::{ConnectionParameters, Direction, TransportClass, TriggerType};
-pub use fields::{decode_parameters, encode_parameters};
-use wire::Refusal;
+use connection::{Direction, TransportClass, TriggerType};
+pub use fields::{decode_parameters, encode_parameters, parameter_width};
 
-// A field of several bits as a number, or why there is none.
+// What the class-and-trigger byte says.
 #[derive(Clone, Copy)]
-pub enum Word {
-    Bits(u32),
-    Refused(Refusal),
-}
-
-#[derive(Clone, Copy)]
-pub enum ParametersRead {
-    Found(ConnectionParameters),
-    Refused(Refusal),
-}
-
-#[derive(Clone, Copy)]
-pub enum TransportRead {
-    Found(Direction, TriggerType, TransportClass),
-    Refused(Refusal),
+pub struct TransportRead {
+    pub direction: Direction,
+    pub trigger: TriggerType,
+    pub class: TransportClass,
 }

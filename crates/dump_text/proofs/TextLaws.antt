@@ -6,13 +6,12 @@ use native.Mathlib.Nat.{add-zero, zero-add}
 use native.Mathlib.Omega.{arith}
 use lib.ListN.{length, get_or, drop, length-append}
 use lib.Seq.{sets, length-sets, get_or-drop}
+use Rattle.std.specs.Prelude.{Result, Ok, Err}
 use Rattle.wire.specs.Refusals.{number}
 use Rattle.wire.specs.Parts.{overlay}
 use Rattle.wire.specs.Folds.{joined}
-use Rattle.wire.specs.Answers.{Answer, done, refused, paper_count, written, Put, PutAt, or_zero}
+use Rattle.wire.specs.Answers.{Answer, done, refused, paper, written, Put, PutAt, or_zero}
 use Rattle.wire.specs.declared.Refusal.{Refusal}
-use Rattle.wire.specs.declared.Counted.{Counted}
-use Rattle.wire.specs.declared.Counted.TheVariants.{Count, Refused as NotCounted}
 use Rattle.wire.proofs.Rules.{rules}
 use Rattle.wire.proofs.Stores.{sets_append, sets_onto, sets_overlay, past_part}
 use Rattle.nested.specs.Nested.{max_rows, row_size, Row, row_values, nested, counted, stored_rows}
@@ -45,51 +44,48 @@ pub ruleset line_laws = (line_hex, line_path, line_data, line_placed)
 
 -- ---- lines
 
--- what holds where `rest` of n rows are left: what is left to store gives what the whole gives
-pub record Lines (l : List ℕ) (n rest at : ℕ) (old out : List ℕ) : Type 0 where
-  pub most : rest ≤ n
-  pub small : at ≤ max_line * (n - rest)
-  pub size : at + length (lines_from rest l (n - rest)) ≡ length (lines_from n l 0)
-  pub left : sets out at (lines_from rest l (n - rest)) ≡ sets old 0 (lines_from n l 0)
+-- what holds before row k of n: what is left to store gives what the whole gives
+pub record Lines (l : List ℕ) (n k at : ℕ) (old out : List ℕ) : Type 0 where
+  pub most : k ≤ n
+  pub small : at ≤ max_line * k
+  pub size : at + length (lines_from (n - k) l k) ≡ length (lines_from n l 0)
+  pub left : sets out at (lines_from (n - k) l k) ≡ sets old 0 (lines_from n l 0)
   pub same : length out ≡ length old
 
-pub lines_first : (l : List ℕ) (n : ℕ) (old : List ℕ) → Lines l n n 0 old old
+pub lines_first : (l : List ℕ) (n : ℕ) (old : List ℕ) → Lines l n 0 0 old old
 lines_first l n old =
-    let z : n - n ≡ 0 = omega arith in
+    let z : n - 0 ≡ n = omega arith in
     record { most = omega arith; small = omega arith; size = rw z (zero-add _); left = rw z; same = refl }
 
-module _ (l : List ℕ) (n rest at : ℕ) (old out : List ℕ) (h : Lines l n rest at old out) where
-  pub lines_end : rest ≤ 0 → Put (lines_from n l 0) old at out
+module _ (l : List ℕ) (n k at : ℕ) (old out : List ℕ) (h : Lines l n k at old out) where
+  pub lines_end : n ≤ k → Put (lines_from n l 0) old at out
   unfolding lines_from
   lines_end g =
-      let z : rest ≡ 0 = omega arith in
+      let z : n - k ≡ 0 = omega arith in
       record { size = sym (add-zero at) ∙ rw z at h.size; stored = rw z at h.left }
 
-  module _ (g : 0 < rest) (few : n ≤ max_rows) where
-    pub lines_row : n - rest ≤ max_rows
+  module _ (g : k < n) (few : n ≤ max_rows) where
+    pub lines_row : k ≤ max_rows
     lines_row = omega arith
 
     pub lines_place : at ≤ max_text
     lines_place = omega (arith, h.small, h.most)
 
-    split : lines_from rest l (n - rest) ≡ line (row_at l (n - rest)) ++ lines_from (rest - 1) l (n - (rest - 1))
+    split : lines_from (n - k) l k ≡ line (row_at l k) ++ lines_from (n - (k + 1)) l (k + 1)
     unfolding lines_from
-    split =
-        let e : rest ≡ suc (rest - 1) = omega arith in
-        let f : n - rest + 1 ≡ n - (rest - 1) = omega (arith, h.most) in
-        ap (λ (k : ℕ). lines_from k l (n - rest)) e ∙ ap (λ (k : ℕ). line (row_at l (n - rest)) ++ lines_from (rest - 1) l k) f
+    split = let e : n - k ≡ suc (n - (k + 1)) = omega arith in ap (λ (j : ℕ). lines_from j l k) e
 
-    pub lines_more : (new : List ℕ) (r : ℕ) → PutAt at (line (row_at l (n - rest))) out r new → Lines l n (rest - 1) r old new
+    pub lines_more : (new : List ℕ) (r : ℕ) → PutAt at (line (row_at l k)) out r new → Lines l n (k + 1) r old new
     lines_more new r p =
-        let a : List ℕ = line (row_at l (n - rest)) in
-        let b : List ℕ = lines_from (rest - 1) l (n - (rest - 1)) in
+        let a : List ℕ = line (row_at l k) in
+        let b : List ℕ = lines_from (n - (k + 1)) l (k + 1) in
         record {
-          most = omega (arith, h.most);
-          small = omega (arith, p.ends, h.small, h.most, line_most (row_at l (n - rest)));
-          size = omega (arith, p.ends, h.size, ap length split, length-append (line (row_at l (n - rest))) (lines_from (rest - 1) l (n - (rest - 1))));
+          most = omega arith;
+          small = omega (arith, p.ends, h.small, line_most (row_at l k));
+          size = omega (arith, p.ends, h.size, ap length split, length-append (line (row_at l k)) (lines_from (n - (k + 1)) l (k + 1)));
           left =
               ap (λ (x : List ℕ). sets x r b) p.stored
-              ∙ ap (λ (k : ℕ). sets (sets out at a) k b) p.ends
+              ∙ ap (λ (j : ℕ). sets (sets out at a) j b) p.ends
               ∙ sets_append out a b at
               ∙ ap (λ (x : List ℕ). sets out at x) (sym split)
               ∙ h.left;
@@ -106,14 +102,14 @@ refused_put old mid new v k r i e p = rw (← i) (record {
   stored = sets_onto old mid new refused_word (word v newline) 0 8 e refl p.stored;
 })
 
-module _ (c : Counted) (l : List ℕ) (old new : List ℕ) (r : ℕ) where
-  pub text_lines : (n : ℕ) → c ≡ Count n → Put (lines_from n l 0) old r new → Put (text_in (paper_count c) l) old r new
+module _ (c : Result ℕ Refusal) (l : List ℕ) (old new : List ℕ) (r : ℕ) where
+  pub text_lines : (n : ℕ) → c ≡ Ok n → Put (lines_from n l 0) old r new → Put (text_in (paper c) l) old r new
   text_lines n h p = rw h p
 
-  pub text_refused : (e : Refusal) → c ≡ NotCounted e → Put (refused_line (number e)) old r new → Put (text_in (paper_count c) l) old r new
+  pub text_refused : (e : Refusal) → c ≡ Err e → Put (refused_line (number e)) old r new → Put (text_in (paper c) l) old r new
   text_refused e h p = rw h p
 
-pub text_few : (c : Counted) (n : ℕ) → c ≡ Count n → or_zero (paper_count c) ≤ max_rows → n ≤ max_rows
+pub text_few : (c : Result ℕ Refusal) (n : ℕ) → c ≡ Ok n → or_zero (paper c) ≤ max_rows → n ≤ max_rows
 text_few c n h b = rw h at b
 
 pub ruleset text_laws = (text_lines, text_refused, text_few)
@@ -150,7 +146,7 @@ module _ (s l : List ℕ) (room : length l ≡ row_size * max_rows) where
           let q : counted (done rs) (length l) ≡ done (length rs) = has_room rs e in
           ap (λ (a : Answer ℕ). text_in a (written a (joined row_values rs) l)) q ∙ front rs
 
-  pub dump_few : (c : Counted) → paper_count c ≡ counted (nested s) (length l) → or_zero (paper_count c) ≤ max_rows
+  pub dump_few : (c : Result ℕ Refusal) → paper c ≡ counted (nested s) (length l) → or_zero (paper c) ≤ max_rows
   unfolding counted
   dump_few c e = rw e (go (nested s) refl)
     where
@@ -159,11 +155,11 @@ module _ (s l : List ℕ) (room : length l ≡ row_size * max_rows) where
       go (done rs) e = rw (has_room rs e) (most_rows s rs e)
 
 -- ---- the text of a message, first stored nowhere
-module _ (s l0 l old : List ℕ) (room : length l0 ≡ row_size * max_rows) (c : Counted) (ce : paper_count c ≡ counted (nested s) (length l0)) (le : l ≡ stored_rows (nested s) l0) where
-  same_text : text_in (paper_count c) l ≡ dump_text s
+module _ (s l0 l old : List ℕ) (room : length l0 ≡ row_size * max_rows) (c : Result ℕ Refusal) (ce : paper c ≡ counted (nested s) (length l0)) (le : l ≡ stored_rows (nested s) l0) where
+  same_text : text_in (paper c) l ≡ dump_text s
   same_text = rw (ce, le) (text_is s l0 room)
 
-  module _ (n : ℕ) (l' : List ℕ) (p : Put (text_in (paper_count c) l) [] n l') (z : length l' ≡ 0) where
+  module _ (n : ℕ) (l' : List ℕ) (p : Put (text_in (paper c) l) [] n l') (z : length l' ≡ 0) where
     long : n ≡ length (dump_text s)
     long = p.size ∙ ap length same_text
 
@@ -183,10 +179,10 @@ module _ (s l0 l old : List ℕ) (room : length l0 ≡ row_size * max_rows) (c :
       pub dump_done : done n ≡ text_answer s (length old)
       dump_done = ap done long ∙ enough
 
-      pub dump_done_bytes : (m : ℕ) (new : List ℕ) → Put (text_in (paper_count c) l) (l' ++ old) m new → new ≡ text_over s old
+      pub dump_done_bytes : (m : ℕ) (new : List ℕ) → Put (text_in (paper c) l) (l' ++ old) m new → new ≡ text_over s old
       dump_done_bytes m new q =
           q.stored
-          ∙ ap (λ (x : List ℕ). sets x 0 (text_in (paper_count c) l)) (lent_none l' old z)
+          ∙ ap (λ (x : List ℕ). sets x 0 (text_in (paper c) l)) (lent_none l' old z)
           ∙ ap (λ (x : List ℕ). sets old 0 x) same_text
           ∙ sets_overlay old (dump_text s) fits
           ∙ ap (λ (a : Answer ℕ). written a (dump_text s) old) enough

@@ -5,11 +5,11 @@ mod words; // words.rt: numbers as text
 
 ghost use Rattle.std.specs.Prelude.{◌≡◌, ◌*◌, ◌≤◌, length, get_or};
 ghost use Rattle.wire.specs.Refusals.{number};
-ghost use Rattle.wire.specs.Answers.{paper_size, paper_count, Put, PutAt, or_zero};
+ghost use Rattle.wire.specs.Answers.{paper, Put, PutAt, or_zero};
 ghost use Rattle.nested.specs.Nested.{max_rows, row_size};
 ghost use Rattle.dump_text.specs.Text.{max_text, row_at, line, lines_from, refused_line, text_in, text_answer, text_over};
 
-use wire::{Counted, Refusal, Wrote};
+use wire::Refusal;
 use wire_write::put_bytes;
 use words::{put_hex, put_word};
 
@@ -30,13 +30,11 @@ const MAX_NUMBERS: usize = nested::ROW * nested::MAX_ROWS;
 fn number_at(rows: &[u16], at: usize) -> u16
     ensures { result ≡ get_or rows.now at 0 }
 {
-    if at < rows.len() {
-        return rows[at];
-    }
-    0
+    rows.get(at).copied().unwrap_or(0)
 }
 
 // Stores the line of row k from a place on; answers the place behind it.
+#[tactic(auto, using(crate::proofs::TextLaws::line_laws))]
 fn put_line(rows: &[u16], k: usize, out: &mut [u8], at: usize) -> usize
     requires { (k ≤ max_rows) × (at ≤ max_text) }
     ensures { PutAt at (line (row_at rows.now k)) out.old result out.new }
@@ -49,15 +47,14 @@ fn put_line(rows: &[u16], k: usize, out: &mut [u8], at: usize) -> usize
 }
 
 // Stores the lines of the first n rows; answers how many bytes they are.
+#[tactic(auto, using(crate::proofs::TextLaws::lines_laws))]
 fn put_lines(rows: &[u16], n: usize, out: &mut [u8]) -> usize
     requires { n ≤ max_rows }
     ensures { Put (lines_from n rows.now 0) out.old result out.new }
 {
     let mut at = 0;
-    let mut rest = n;
-    while 0 < rest {
-        at = put_line(rows, n - rest, out, at);
-        rest -= 1;
+    for k in 0..n {
+        at = put_line(rows, k, out, at);
     }
     at
 }
@@ -71,34 +68,35 @@ fn put_refused(e: Refusal, out: &mut [u8]) -> usize
 }
 
 // Stores the text of what a reading answered, with its rows; answers how many bytes it is.
-fn put_text(c: Counted, rows: &[u16], out: &mut [u8]) -> usize
-    requires { or_zero (paper_count c) ≤ max_rows }
-    ensures { Put (text_in (paper_count c) rows.now) out.old result out.new }
+fn put_text(c: Result<usize, Refusal>, rows: &[u16], out: &mut [u8]) -> usize
+    requires { or_zero (paper c) ≤ max_rows }
+    ensures { Put (text_in (paper c) rows.now) out.old result out.new }
 {
     match c {
-        Counted::Count(n) => put_lines(rows, n, out),
-        Counted::Refused(e) => put_refused(e, out),
+        Ok(n) => put_lines(rows, n, out),
+        Err(e) => put_refused(e, out),
     }
 }
 
 // Writes the text of a message, by way of its rows. The first time the text is stored nowhere, so that a refusal leaves every byte as it stood.
-fn write_by(s: &[u8], rows: &mut [u16], out: &mut [u8]) -> Wrote
+#[tactic(auto, using(crate::proofs::TextLaws::dump_laws))]
+fn write_by(s: &[u8], rows: &mut [u16], out: &mut [u8]) -> Result<usize, Refusal>
     requires { length rows.old ≡ row_size * max_rows }
-    ensures result_value { paper_size result ≡ text_answer s.now (length out.old) }
+    ensures result_value { paper result ≡ text_answer s.now (length out.old) }
     ensures out_after { out.new ≡ text_over s.now out.old }
 {
     let c = nested::read_nested(s, rows);
     let size = put_text(c, rows, &mut out[0..0]);
     if out.len() < size {
-        return Wrote::Refused(Refusal::Room);
+        return Err(Refusal::Room);
     }
     put_text(c, rows, out);
-    Wrote::Size(size)
+    Ok(size)
 }
 
 // Writes the text of a message; that of a refused one says so.
-pub fn write_dump(s: &[u8], out: &mut [u8]) -> Wrote
-    ensures answer { paper_size result ≡ text_answer s.now (length out.old) }
+pub fn write_dump(s: &[u8], out: &mut [u8]) -> Result<usize, Refusal>
+    ensures answer { paper result ≡ text_answer s.now (length out.old) }
     ensures bytes { out.new ≡ text_over s.now out.old }
 {
     let mut rows = [0u16; MAX_NUMBERS];

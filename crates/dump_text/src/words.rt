@@ -1,4 +1,6 @@
-// Numbers as text. Each function stores from a place on, and answers the place behind what it stored; what lies past the end is not stored.
+// Numbers as text, into lent bytes: not by Display, since no heap is used and the clauses name each byte. Each function stores from a place on, and
+// answers the place behind what it stored; what lies past the end is not stored. A place has a bound so that what follows it does not wrap: a type
+// of such places would be longer than the three clauses.
 ghost use Rattle.std.specs.Prelude.{◌≤◌};
 ghost use Rattle.wire.specs.Answers.{PutAt};
 ghost use Rattle.dump_text.specs.Text.{decimal, word, hex_word, roomy};
@@ -26,6 +28,7 @@ fn put_decimal(out: &mut [u8], at: usize, v: u16) -> usize
 }
 
 // A number, and a character behind it.
+#[tactic(auto, using(crate::proofs::WordLaws::word_laws))]
 pub(crate) fn put_word(out: &mut [u8], at: usize, v: u16, end: u8) -> usize
     requires { at ≤ roomy }
     ensures { PutAt at (word v end) out.old result out.new }
@@ -36,6 +39,7 @@ pub(crate) fn put_word(out: &mut [u8], at: usize, v: u16, end: u8) -> usize
 }
 
 // A byte in two hex digits, and a blank behind it.
+#[tactic(auto, using(crate::proofs::WordLaws::hex_placed))]
 pub(crate) fn put_hex(out: &mut [u8], at: usize, v: u16) -> usize
     requires { at ≤ roomy }
     ensures { PutAt at (hex_word v) out.old result out.new }

@@ -1,20 +1,15 @@
 -- Each end of the envelope's reader, as a law with plain conditions. Assumes nothing.
-use Prim.Native.Nat.{ℕ, ◌+◌, ◌≤◌, ◌<◌}
-use mathlib.Core.Path.{◌≡◌, sym, ap, ◌∙◌}
+use Prim.Native.Nat.{ℕ, ◌+◌, ◌-◌, ◌≤◌, ◌<◌}
+use mathlib.Core.Path.{◌≡◌, refl, sym, ap, ◌∙◌}
 use mathlib.Core.List.{List}
 use native.Mathlib.Omega.{arith}
 use lib.ListN.{length, drop}
-use mir.Val.{Fits}
-use mir.Syntax.{w16, w64}
 use Rattle.wire.specs.Numbers.{value_of}
-use Rattle.wire.specs.Refusals.{number}
-use Rattle.wire.specs.Answers.{Answer, done, refused, paper_count, or_zero}
-use Rattle.wire.specs.declared.Refusal.{Refusal}
-use Rattle.wire.specs.declared.Counted.{Counted}
-use Rattle.wire.specs.declared.Counted.TheVariants.{Count, Refused as NotCounted}
-use Rattle.wire.proofs.Rules.{rules, then_stops, then_goes}
+use Rattle.wire.specs.Answers.{Answer, done, refused, and_then}
+use Rattle.wire.proofs.Rules.{rules, never, done_same, then_stops, then_goes, then_were}
 use Rattle.wire.proofs.Choice.{pick_here, pick_past}
-use Rattle.envelope.specs.Envelopes.{connected_address, Held, connected, item_length, items_at, unconnected_at, connected_at, read_envelope}
+use Rattle.envelope.specs.Envelopes.{null_address, connected_address, connected_data, unconnected_data, Held, unconnected, connected, item_length, items_at, data_at, unconnected_at, connected_at, read_envelope}
+use Rattle.envelope.specs.declared.Data.{Data}
 
 -- ---- one item
 module _ (kind : ℕ) (s : List ℕ) (at : ℕ) where
@@ -47,50 +42,102 @@ module _ (kind : ℕ) (s : List ℕ) (at : ℕ) where
             let e : done n ≡ done (value_of 2 (drop (at + 2) s)) = ap done of in
             search (rules, same_kind)
 
-pub item_most : (n : ℕ) → Fits w16 n → n ≤ 65535
-item_most n f = omega (arith, f.fits)
-
-pub ruleset item_laws = (item_short, item_other, item_cut, item_missing, item_is, item_most)
+pub ruleset item_laws = (item_short, item_other, item_cut, item_missing, item_is)
 
 -- ---- two items
-module _ (address kind : ℕ) (f : ℕ → ℕ → Answer Held) (s : List ℕ) (r : Counted) (is : paper_count r ≡ item_length address s 2) where
-  pub address_stops : (e : Refusal) → r ≡ NotCounted e → refused (number e) ≡ items_at address kind f s
+module _ (address kind : ℕ) (s : List ℕ) where
+  pub address_stops : (k : ℕ) → refused k ≡ item_length address s 2 → refused k ≡ data_at address kind s
+  unfolding data_at
+  address_stops k h = then_stops _ _ k (sym h)
+
+  module _ (a : ℕ) (h : done a ≡ item_length address s 2) where
+    pub data_stops : (k : ℕ) → refused k ≡ item_length kind s (6 + a) → refused k ≡ data_at address kind s
+    unfolding data_at
+    data_stops k g = then_goes _ _ a _ (sym h) (then_stops _ _ k (sym g))
+
+    pub data_found : (n : ℕ) → done n ≡ item_length kind s (6 + a) → done (record { start = 10 + a; len = n }) ≡ data_at address kind s
+    unfolding data_at
+    data_found n g = then_goes _ _ a _ (sym h) (then_goes _ _ n _ (sym g) refl)
+
+pub ruleset two_laws = (address_stops, data_stops, data_found)
+
+abbrev made : ℕ → ℕ → Answer Data
+made a n = done (record { start = 10 + a; len = n })
+
+-- what follows them
+module _ (address kind : ℕ) (s : List ℕ) where
+  stops : (f : ℕ → ℕ → Answer Held) (k : ℕ) → refused k ≡ data_at address kind s → refused k ≡ items_at address kind f s
+  unfolding data_at items_at
+  stops f k h = go (item_length address s 2) refl
+    where
+      go : (x : Answer ℕ) → item_length address s 2 ≡ x → refused k ≡ and_then (item_length address s 2) (λ a. and_then (item_length kind s (6 + a)) (λ n. f a n))
+      go (refused j) e = let g : refused k ≡ refused j = rw e at h in then_stops _ _ k (e ∙ ap refused cc)
+      go (done a) e =
+          let g : refused k ≡ and_then (item_length kind s (6 + a)) (made a) = rw e at h in
+          then_goes _ _ a _ e (to (item_length kind s (6 + a)) refl g)
+        where
+          to : (y : Answer ℕ) → item_length kind s (6 + a) ≡ y → refused k ≡ and_then (item_length kind s (6 + a)) (made a) → refused k ≡ and_then (item_length kind s (6 + a)) (λ n. f a n)
+          to (refused j) i g = let l : refused k ≡ refused j = rw i at g in then_stops _ _ k (i ∙ ap refused cc)
+          to (done n) i g = never (rw i at g)
+
+  -- so many bytes of address are before the data
+  pub record Two (d : Data) : Type 0 where
+    pub before : ℕ
+    pub first : item_length address s 2 ≡ done before
+    pub second : item_length kind s (6 + before) ≡ done d.len
+    pub start : d.start ≡ 10 + before
+
+  two_were : (d : Data) → done d ≡ data_at address kind s → Two d
+  unfolding data_at
+  two_were d h =
+      let w = then_were _ _ d (sym h) in
+      let v = then_were _ _ d w.then in
+      let e : record { start = 10 + w.found; len = v.found } ≡ d = done_same v.then in
+      record { before = w.found; first = w.is; second = v.is ∙ ap (λ (x : Data). done x.len) e; start = sym (ap (λ (x : Data). x.start) e) }
+
+  found : (f : ℕ → ℕ → Answer Held) (d : Data) (w : Two d) (z : Answer Held) → z ≡ f w.before d.len → z ≡ items_at address kind f s
   unfolding items_at
-  address_stops e h = then_stops _ _ (number e) (sym is ∙ ap paper_count h)
+  found f d w z e = then_goes _ _ w.before z w.first (then_goes _ _ d.len z w.second e)
 
-  module _ (a : ℕ) (h : r ≡ Count a) (q : Counted) (of : paper_count q ≡ item_length kind s (6 + a)) where
-    pub data_stops : (e : Refusal) → q ≡ NotCounted e → refused (number e) ≡ items_at address kind f s
-    unfolding items_at
-    data_stops e g = then_goes _ _ a _ (sym is ∙ ap paper_count h) (then_stops _ _ (number e) (sym of ∙ ap paper_count g))
+module _ (s : List ℕ) where
+  pub unconnected_stops : (k : ℕ) → refused k ≡ data_at null_address unconnected_data s → refused k ≡ unconnected_at s
+  unconnected_stops k h = stops null_address unconnected_data s _ k h
 
-    pub data_found : (n : ℕ) (z : Answer Held) → q ≡ Count n → z ≡ f a n → z ≡ items_at address kind f s
-    unfolding items_at
-    data_found n z g e = then_goes _ _ a z (sym is ∙ ap paper_count h) (then_goes _ _ n z (sym of ∙ ap paper_count g) e)
+  pub connected_stops : (k : ℕ) → refused k ≡ data_at connected_address connected_data s → refused k ≡ connected_at s
+  connected_stops k h = stops connected_address connected_data s _ k h
 
-pub count_read : (v w start len : ℕ) → v ≡ w → done (connected v start len) ≡ done (connected w start len)
-count_read v w start len e = rw e
+  module _ (d : Data) where
+    module _ (h : done d ≡ data_at null_address unconnected_data s) where
+      pub unconnected_left : d.start + d.len < length s → refused 8 ≡ unconnected_at s
+      unconnected_left l =
+          let w = two_were null_address unconnected_data s d h in
+          let m : 10 + w.before + d.len < length s = omega (arith, w.start, l) in
+          found _ _ s _ d w (refused 8) (search rules)
 
--- places behind the address
-module _ (r : Counted) (a : ℕ) (h : r ≡ Count a) (l : or_zero (paper_count r) ≤ 65535) where
-  near : a ≤ 65535
-  near = rw h at l
+      pub unconnected_is : length s ≤ d.start + d.len → done (unconnected d.start d.len) ≡ unconnected_at s
+      unconnected_is l =
+          let w = two_were null_address unconnected_data s d h in
+          let m : length s ≤ 10 + w.before + d.len = omega (arith, w.start, l) in
+          ap (λ (k : ℕ). done (unconnected k d.len)) w.start ∙ found _ _ s _ d w (done (unconnected (10 + w.before) d.len)) (search rules)
 
-  pub second_near : 6 + a ≤ 70000
-  second_near = omega (arith, near)
+    module _ (h : done d ≡ data_at connected_address connected_data s) where
+      pub connected_short : d.len < 2 → refused 1 ≡ connected_at s
+      connected_short l = found _ _ s _ d (two_were connected_address connected_data s d h) (refused 1) (search rules)
 
-  pub second_fits : Fits w64 (6 + a)
-  second_fits = record { fits = omega (arith, near) }
+      module _ (g : 2 ≤ d.len) where
+        pub connected_left : d.start + d.len < length s → refused 8 ≡ connected_at s
+        connected_left l =
+            let w = two_were connected_address connected_data s d h in
+            let m : 10 + w.before + d.len < length s = omega (arith, w.start, l) in
+            found _ _ s _ d w (refused 8) (search rules)
 
-  pub start_fits : Fits w64 (10 + a)
-  start_fits = record { fits = omega (arith, near) }
+        pub connected_is : (c : ℕ) → c ≡ value_of 2 (drop d.start s) → length s ≤ d.start + d.len → done (connected c (d.start + 2) (d.len - 2)) ≡ connected_at s
+        connected_is c e l =
+            let w = two_were connected_address connected_data s d h in
+            let m : length s ≤ 10 + w.before + d.len = omega (arith, w.start, l) in
+            rw (e, w.start) (found _ _ s _ d w _ (search rules))
 
-  pub count_fits : Fits w64 (10 + a + 2)
-  count_fits = record { fits = omega (arith, near) }
-
-  pub end_fits : (q : Counted) (n : ℕ) → q ≡ Count n → or_zero (paper_count q) ≤ 65535 → Fits w64 (10 + a + n)
-  end_fits q n f m = let k : n ≤ 65535 = rw f at m in record { fits = omega (arith, near) }
-
-pub ruleset two_laws = (address_stops, data_stops, data_found, count_read, second_near, second_fits, start_fits, count_fits, end_fits)
+pub ruleset held_laws = (unconnected_stops, connected_stops, unconnected_left, unconnected_is, connected_short, connected_left, connected_is)
 
 -- ---- the envelope
 module _ (s : List ℕ) where

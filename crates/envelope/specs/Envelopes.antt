@@ -1,12 +1,16 @@
 -- The reader of the two-item envelope, executable: fields in wire order, the first broken rule refuses. CIP Volume 2, 2-6 (common packet format: an
 -- item count, then items of type, length, bytes); rules and numbers from document 01, "Replies". Assumes nothing: these are definitions.
-use Rattle.std.specs.Prelude.{ℕ, ◌+◌, ◌-◌, List, [], ◌∷◌, length, drop, eqb}
+use Rattle.std.specs.Prelude.{ℕ, ◌+◌, ◌-◌, List, [], ◌∷◌, length, drop, eqb, Result, Ok, Err}
 use Rattle.wire.specs.Choice.{pick}
 use Rattle.wire.specs.Numbers.{value_of}
 use Rattle.wire.specs.Refusals.{number}
 use Rattle.wire.specs.Answers.{Answer, done, refused, and_then, Rule, under, over, other, judged}
+use Rattle.wire.specs.declared.Refusal.{Refusal}
 use Rattle.envelope.specs.declared.EnvelopeRead.{EnvelopeRead}
-use Rattle.envelope.specs.declared.EnvelopeRead.TheVariants.{Unconnected, Connected, Refused}
+use Rattle.envelope.specs.declared.EnvelopeRead.TheVariants.{Unconnected, Connected}
+use Rattle.envelope.specs.declared.Data.{Data}
+use Rattle.envelope.specs.declared.ItemType.{ItemType}
+use Rattle.envelope.specs.declared.ItemType.TheVariants.{NullAddress, ConnectedAddress, ConnectedData, UnconnectedData}
 
 -- item types
 abbrev pub null_address : ℕ
@@ -20,6 +24,13 @@ connected_data = 0xB1
 
 abbrev pub unconnected_data : ℕ
 unconnected_data = 0xB2
+
+-- the same as the code names them
+abbrev pub type_number : ItemType → ℕ
+type_number NullAddress = null_address
+type_number ConnectedAddress = connected_address
+type_number ConnectedData = connected_data
+type_number UnconnectedData = unconnected_data
 
 -- what an envelope holds: start and length of its data, and of connected data the count before it
 pub data Held : Type 0 where
@@ -42,6 +53,11 @@ item_length kind s at = judged (item_rules kind s at) (done (value_of 2 (drop (a
 unfoldable pub items_at : ℕ → ℕ → (ℕ → ℕ → Answer Held) → List ℕ → Answer Held
 items_at address kind f s = and_then (item_length address s 2) (λ a. and_then (item_length kind s (6 + a)) (λ n. f a n))
 
+-- the two items alone: where the data starts, and how much there is
+unfoldable pub data_at : ℕ → ℕ → List ℕ → Answer Data
+data_at address kind s =
+    and_then (item_length address s 2) (λ a. and_then (item_length kind s (6 + a)) (λ n. done (record { start = 10 + a; len = n })))
+
 -- a null address, and data
 abbrev pub unconnected_at : List ℕ → Answer Held
 unconnected_at s = items_at null_address unconnected_data (λ a n. judged (over (length s) (10 + a + n) 8 ∷ []) (done (unconnected (10 + a) n))) s
@@ -61,7 +77,7 @@ read_envelope s = judged (count_rules s) (pick (eqb (value_of 2 (drop 2 s)) conn
 
 -- ---- what the functions answer
 
-abbrev pub paper_envelope : EnvelopeRead → Answer Held
-paper_envelope (Unconnected start len) = done (unconnected start len)
-paper_envelope (Connected count start len) = done (connected count start len)
-paper_envelope (Refused e) = refused (number e)
+abbrev pub paper_envelope : Result EnvelopeRead Refusal → Answer Held
+paper_envelope (Ok (Unconnected start len)) = done (unconnected start len)
+paper_envelope (Ok (Connected count start len)) = done (connected count start len)
+paper_envelope (Err e) = refused (number e)

@@ -2,113 +2,114 @@
 // `decode_unconnected_send` in src/codec/decode/message_reply.rs; the walk over items that they use is not in the crate's pages.
 #![tactic(auto)]
 
-ghost use Rattle.std.specs.Prelude.{◌≡◌, ◌≤◌};
-ghost use Rattle.wire.specs.Answers.{paper_count, or_zero};
-ghost use Rattle.envelope.specs.Envelopes.{item_length, unconnected_at, connected_at, read_envelope, paper_envelope};
+ghost use Rattle.std.specs.Prelude.{◌≡◌, ◌≤◌, IfOk};
+ghost use Rattle.wire.specs.Answers.{paper};
+ghost use Rattle.envelope.specs.Envelopes.{type_number, item_length, data_at, unconnected_at, connected_at, read_envelope, paper_envelope};
 
-use wire::{Counted, Refusal};
+use wire::Refusal;
 use wire_read::u16_at;
 
-// ---- item types, each beside its twin in specs/Envelopes.antt
-
-const NULL_ADDRESS: u16 = 0;
-
-const CONNECTED_ADDRESS: u16 = 0xA1;
-
-const CONNECTED_DATA: u16 = 0xB1;
-
-const UNCONNECTED_DATA: u16 = 0xB2;
+// An item's type, with its number on the wire; its twin is `type_number`.
+#[derive(Clone, Copy)]
+enum ItemType {
+    NullAddress = 0,
+    ConnectedAddress = 0xA1,
+    ConnectedData = 0xB1,
+    UnconnectedData = 0xB2,
+}
 
 // The data as a start and a length in the input; connected data has a 16-bit count before it.
 #[derive(Clone, Copy)]
 pub enum EnvelopeRead {
     Unconnected(usize, usize),
     Connected(u16, usize, usize),
-    Refused(Refusal),
+}
+
+// Where the bytes of the second item start, and how many there are.
+#[derive(Clone, Copy)]
+struct Data {
+    start: usize,
+    len: usize,
 }
 
 // How many bytes the item at a place has; its type is judged as soon as it is there. What is required only keeps sums from wrapping.
-fn item_at(kind: u16, s: &[u8], at: usize) -> Counted
+#[tactic(auto, using(crate::proofs::ReadLaws::item_laws))]
+fn item_at(kind: ItemType, s: &[u8], at: usize) -> Result<u16, Refusal>
     requires { at ≤ 70000 }
-    ensures answer { paper_count result ≡ item_length kind s.now at }
-    ensures small { or_zero (paper_count result) ≤ 65535 }
+    ensures { paper result ≡ item_length (type_number kind) s.now at }
 {
     if s.len() < at + 2 {
-        return Counted::Refused(Refusal::Short);
+        return Err(Refusal::Short);
     }
-    let found = u16_at(s, at);
-    if found != kind {
-        return Counted::Refused(Refusal::Envelope);
+    if u16_at(s, at) != kind as u16 {
+        return Err(Refusal::Envelope);
     }
     if s.len() < at + 4 {
-        return Counted::Refused(Refusal::Short);
+        return Err(Refusal::Short);
     }
     let len = u16_at(s, at + 2);
-    if s.len() < at + 4 + (len as usize) {
-        return Counted::Refused(Refusal::Short);
+    if s.len() < at + 4 + usize::from(len) {
+        return Err(Refusal::Short);
     }
-    Counted::Count(len as usize)
+    Ok(len)
+}
+
+// The data behind an address of a type.
+#[tactic(auto, using(crate::proofs::ReadLaws::two_laws))]
+fn data_at(address: ItemType, kind: ItemType, s: &[u8]) -> Result<Data, Refusal>
+    ensures data { paper result ≡ data_at (type_number address) (type_number kind) s.now }
+    ensures near { IfOk result (λ d. (d.start ≤ 65545) × (d.len ≤ 65535)) }
+{
+    let before = usize::from(item_at(address, s, 2)?);
+    let len = usize::from(item_at(kind, s, 6 + before)?);
+    Ok(Data {
+        start: 10 + before,
+        len,
+    })
 }
 
 // A null address, and data.
-fn unconnected_at(s: &[u8]) -> EnvelopeRead
+#[tactic(auto, using(crate::proofs::ReadLaws::held_laws))]
+fn unconnected_at(s: &[u8]) -> Result<EnvelopeRead, Refusal>
     ensures { paper_envelope result ≡ unconnected_at s.now }
 {
-    match item_at(NULL_ADDRESS, s, 2) {
-        Counted::Refused(e) => EnvelopeRead::Refused(e),
-        Counted::Count(address) => match item_at(UNCONNECTED_DATA, s, 6 + address) {
-            Counted::Refused(e) => EnvelopeRead::Refused(e),
-            Counted::Count(len) => {
-                let start = 10 + address;
-                let end = start + len;
-                if end < s.len() {
-                    return EnvelopeRead::Refused(Refusal::Leftover);
-                }
-                EnvelopeRead::Unconnected(start, len)
-            }
-        },
+    let Data { start, len } = data_at(ItemType::NullAddress, ItemType::UnconnectedData, s)?;
+    if start + len < s.len() {
+        return Err(Refusal::Leftover);
     }
+    Ok(EnvelopeRead::Unconnected(start, len))
 }
 
 // A connected address, and data behind its count.
-fn connected_at(s: &[u8]) -> EnvelopeRead
+#[tactic(auto, using(crate::proofs::ReadLaws::held_laws))]
+fn connected_at(s: &[u8]) -> Result<EnvelopeRead, Refusal>
     ensures { paper_envelope result ≡ connected_at s.now }
 {
-    match item_at(CONNECTED_ADDRESS, s, 2) {
-        Counted::Refused(e) => EnvelopeRead::Refused(e),
-        Counted::Count(address) => match item_at(CONNECTED_DATA, s, 6 + address) {
-            Counted::Refused(e) => EnvelopeRead::Refused(e),
-            Counted::Count(len) => {
-                let start = 10 + address;
-                if len < 2 {
-                    return EnvelopeRead::Refused(Refusal::Short);
-                }
-                if start + len < s.len() {
-                    return EnvelopeRead::Refused(Refusal::Leftover);
-                }
-                let count = u16_at(s, start);
-                EnvelopeRead::Connected(count, start + 2, len - 2)
-            }
-        },
+    let Data { start, len } = data_at(ItemType::ConnectedAddress, ItemType::ConnectedData, s)?;
+    if len < 2 {
+        return Err(Refusal::Short);
     }
+    if start + len < s.len() {
+        return Err(Refusal::Leftover);
+    }
+    Ok(EnvelopeRead::Connected(u16_at(s, start), start + 2, len - 2))
 }
 
 // Reads an envelope of either form; the type of its address item says which.
-pub fn read_envelope(s: &[u8]) -> EnvelopeRead
+#[tactic(auto, using(crate::proofs::ReadLaws::envelope_laws))]
+pub fn read_envelope(s: &[u8]) -> Result<EnvelopeRead, Refusal>
     ensures { paper_envelope result ≡ read_envelope s.now }
 {
     if s.len() < 2 {
-        return EnvelopeRead::Refused(Refusal::Short);
+        return Err(Refusal::Short);
     }
-    let items = u16_at(s, 0);
-    if items != 2 {
-        return EnvelopeRead::Refused(Refusal::Envelope);
+    if u16_at(s, 0) != 2 {
+        return Err(Refusal::Envelope);
     }
     if s.len() < 4 {
-        return EnvelopeRead::Refused(Refusal::Short);
+        return Err(Refusal::Short);
     }
-    let kind = u16_at(s, 2);
-    if kind == CONNECTED_ADDRESS {
+    if u16_at(s, 2) == ItemType::ConnectedAddress as u16 {
         return connected_at(s);
     }
     unconnected_at(s)

@@ -1,4 +1,3 @@
-pub mod ShiftLaws
 pub mod Places
 pub mod Ends
 pub mod Walks

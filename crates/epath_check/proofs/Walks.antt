@@ -8,10 +8,9 @@ use lib.ListN.{length, get_or, drop}
 use mir.Val.{Fits}
 use mir.Syntax.{w8}
 use borrow.Author.Tests.{lt-ltb, le-ltb}
+use Rattle.std.specs.Prelude.{Result, Err}
 use Rattle.wire.specs.Refusals.{number}
-use Rattle.wire.specs.Answers.{Answer, done, refused, paper_count}
-use Rattle.wire.specs.declared.Counted.{Counted}
-use Rattle.wire.specs.declared.Counted.TheVariants.{Count, Refused as NotCounted}
+use Rattle.wire.specs.Answers.{Answer, done, refused, paper}
 use Rattle.wire.proofs.Rules.{never}
 use Rattle.wire.specs.declared.Refusal.{Refusal}
 use Rattle.epath_sizes.specs.Limits.{max_segments, most_bytes, max_place}
@@ -113,15 +112,15 @@ module _ (s : List ℕ) (count at : ℕ) where
     pub counting_ends : length s ≤ at → done count ≡ check_path s
     counting_ends h = ap done (sym (add-zero count)) ∙ left_ends s count at (adds count) (check_path s) w.rest h
 
-    module _ (r : Counted) (p : paper_count r ≡ next_in s at) (h : at < length s) (c : count ≡ max_segments → ⊥) where
-      pub counting_stops : (e : Refusal) → r ≡ NotCounted e → refused (number e) ≡ check_path s
+    module _ (h : at < length s) (c : count ≡ max_segments → ⊥) where
+      pub counting_stops : (r : Result ℕ Refusal) (e : Refusal) → paper r ≡ next_in s at → r ≡ Err e → refused (number e) ≡ check_path s
       unfolding next_in
-      counting_stops e q = left_stops s count at (adds count) (check_path s) w.rest h c w.stands.few (number e) (stopped _ _ (sym p ∙ rw q))
+      counting_stops r e p q = left_stops s count at (adds count) (check_path s) w.rest h c w.stands.few (number e) (stopped _ _ (sym p ∙ rw q))
 
-      pub counting_more : (next : ℕ) → r ≡ Count next → ((k : ℕ) → Fits w8 (get_or s k 0)) → Counting s (count + 1) next
+      pub counting_more : (next : ℕ) → done next ≡ next_in s at → ((k : ℕ) → Fits w8 (get_or s k 0)) → Counting s (count + 1) next
       unfolding next_in
-      counting_more next q b =
-          let g : Gone (moved at (read_seg (drop at s))) next = gone _ _ (sym p ∙ rw q) in
+      counting_more next p b =
+          let g : Gone (moved at (read_seg (drop at s))) next = gone _ _ (sym p) in
           let l : Placed s at (moved at (read_seg (drop at s))) = placed s at b w.stands.there (read_seg (drop at s)) refl in
           record {
             stands = stands_more g.x next w.stands c (rw g.is at l);

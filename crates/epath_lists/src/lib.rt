@@ -4,7 +4,7 @@
 ghost use Rattle.std.specs.Prelude.{◌≡◌, []};
 ghost use Rattle.epath_sizes.specs.Lists.{path_of, backplane, is_port};
 
-use epath_sizes::{Path, PortSegment, Segment, Slot};
+use epath_sizes::{MAX_SEGMENTS, Path, PortSegment, Segment, Slot};
 
 // The list that holds nothing.
 pub fn blank_path() -> Path
@@ -14,7 +14,7 @@ pub fn blank_path() -> Path
         segment: Segment::Class(0),
     };
     Path {
-        slots: [blank; epath_sizes::MAX_SEGMENTS],
+        slots: [blank; MAX_SEGMENTS],
         count: 0,
     }
 }
@@ -33,12 +33,5 @@ pub fn default_port() -> PortSegment
 pub fn is_port(s: Segment) -> bool
     ensures { result ≡ is_port s }
 {
-    match s {
-        Segment::Port(_) => true,
-        Segment::Symbol(_) => false,
-        Segment::Class(_) => false,
-        Segment::Instance(_) => false,
-        Segment::Attribute(_) => false,
-        Segment::Element(_) => false,
-    }
+    matches!(s, Segment::Port(_))
 }

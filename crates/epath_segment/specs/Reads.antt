@@ -1,8 +1,10 @@
 -- The strict reader of one segment, executable: fields in wire order, the first broken rule refuses. CIP Volume 1, Appendix C-1.4, and document 01,
 -- "Segments": it takes exactly what the writer makes. Assumes nothing: these are definitions.
 use Rattle.std.specs.Prelude.{ℕ, zero, suc, ◌+◌, ◌%◌, List, [], ◌∷◌, true, false, length, get_or, drop, ltb, eqb}
+use Rattle.std.specs.Prelude.{Result, Ok, Err}
 use Rattle.wire.specs.Numbers.{value_of}
 use Rattle.wire.specs.Refusals.{number}
+use Rattle.wire.specs.declared.Refusal.{Refusal}
 use Rattle.wire.specs.Answers.{Answer, done, refused, Rule, under, over, other, judged}
 use Rattle.epath_sizes.specs.Limits.{max_link, port_end, near_port, far_port_code, long_link, class_code, instance_code, element_code, attribute_code, symbol_code}
 use Rattle.epath_sizes.specs.Segments.{Seg, far_value}
@@ -10,7 +12,6 @@ use Rattle.epath_sizes.specs.Lists.{meaning, shifted}
 use Rattle.epath_sizes.specs.declared.Segment.{Segment}
 use Rattle.epath_sizes.specs.declared.Segment.TheVariants.{Symbol, Class, Instance, Attribute, Element, Port}
 use Rattle.epath_segment.specs.declared.SegmentRead.{SegmentRead}
-use Rattle.epath_segment.specs.declared.SegmentRead.TheVariants.{Found, Refused}
 use Rattle.epath_segment.specs.declared.decode.Kind.{Kind}
 use Rattle.epath_segment.specs.declared.decode.Kind.TheVariants.{Class as kClass, Instance as kInstance, Attribute as kAttribute, Element as kElement}
 use Rattle.epath_segment.specs.declared.decode.Form.{Form}
@@ -20,9 +21,9 @@ use Rattle.epath_segment.specs.declared.decode.Form.TheVariants.{Port as fPort, 
 pub data Front : Type 0 where
   front : Segment → ℕ → Front
 
-abbrev pub paper_front : SegmentRead → Answer Front
-paper_front (Found x n) = done (front x n)
-paper_front (Refused e) = refused (number e)
+abbrev pub paper_front : Result SegmentRead Refusal → Answer Front
+paper_front (Ok r) = done (front r.segment r.len)
+paper_front (Err e) = refused (number e)
 
 -- ---- what the first byte says
 

@@ -5,11 +5,10 @@ mod decode; // decode.rt: the reader
 
 pub use decode::read_segment;
 use epath_sizes::Segment;
-use wire::Refusal;
 
-// The segment at the front, and how many bytes it has; or why there is none.
+// The segment at the front, and how many bytes it has.
 #[derive(Clone, Copy)]
-pub enum SegmentRead {
-    Found(Segment, usize),
-    Refused(Refusal),
+pub struct SegmentRead {
+    pub segment: Segment,
+    pub len: usize,
 }

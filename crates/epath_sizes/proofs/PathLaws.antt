@@ -5,15 +5,11 @@ use mathlib.Core.List.{List, [], ◌∷◌, ◌++◌}
 use native.Mathlib.Numerals.{add-one}
 use native.Mathlib.Omega.{arith}
 use lib.ListN.{length, length-append, take, drop, get_or}
-use lib.Seq.{drop-cons, length-take-le, get_or-take}
+use lib.Seq.{drop-cons, length-take-le}
 use mir.Val.{Fits}
 use mir.Syntax.{w64}
-use Rattle.wire.specs.Answers.{Answer, done, refused, paper_size}
-use Rattle.wire.specs.Refusals.{number}
+use Rattle.wire.specs.Answers.{Answer, done, refused}
 use Rattle.wire.specs.Folds.{sizes, joined}
-use Rattle.wire.specs.declared.Refusal.{Refusal}
-use Rattle.wire.specs.declared.Wrote.{Wrote}
-use Rattle.wire.specs.declared.Wrote.TheVariants.{Size, Refused}
 use Rattle.wire.proofs.Rules.{rules, all_were, all_keep}
 use Rattle.wire.proofs.Answers.{Parts, plus_parts}
 use Rattle.wire.proofs.Stores.{part_length}
@@ -70,19 +66,9 @@ size_short pool x n h =
     let w : Sized pool x.segment n = sized pool x.segment n h in
     omega (arith, w.size, good_short pool x.segment w.good)
 
--- ---- the list from i on is the slot that the code takes and the list from i + 1 on
-module _ (p : Path) (full : length p.slots ≡ max_segments) (few : p.count ≤ max_segments) where
-  long : length (slots_of p) ≡ p.count
-  long = length-take-le p.count p.slots (omega arith)
-
-  pub next : (i : ℕ) → i < p.count → drop i (slots_of p) ≡ get_or p.slots i none ∷ drop (i + 1) (slots_of p)
-  next i h =
-      drop-cons (slots_of p) i none (omega (arith, long))
-      ∙ ap (λ (x : Slot). x ∷ drop (suc i) (slots_of p)) (get_or-take p.count p.slots i none h)
-      ∙ ap (λ (k : ℕ). get_or p.slots i none ∷ drop k (slots_of p)) (sym (add-one i))
-
-  pub past : (i : ℕ) → p.count ≤ i → length (slots_of p) ≤ i
-  past i h = omega (arith, long)
+-- ---- the list from i on is the slot at i and the list from i + 1 on
+pub next : (l : List Slot) (i : ℕ) → i < length l → drop i l ≡ get_or l i none ∷ drop (i + 1) l
+next l i h = drop-cons l i none h ∙ ap (λ (k : ℕ). get_or l i none ∷ drop k l) (sym (add-one i))
 
 -- ---- adding sizes
 abbrev pub Summing : List ℕ → Path → ℕ → ℕ → Type 0
@@ -100,20 +86,20 @@ module _ (pool : List ℕ) (p : Path) where
   pub summing_first : Summing pool p 0 0
   summing_first = adding_first (size_in pool) most_bytes (size_short pool) (slots_of p)
 
-  module _ (total i : ℕ) (m : Summing pool p total i) (full : length p.slots ≡ max_segments) (few : p.count ≤ max_segments) where
-    pub summing_ends : p.count ≤ i → done total ≡ path_size pool p
-    summing_ends h = counted few (adding_ends (size_in pool) most_bytes (size_short pool) (slots_of p) m (past p full few i h))
+  module _ (total i : ℕ) (m : Summing pool p total i) where
+    pub summing_ends : p.count ≤ max_segments → length (slots_of p) ≤ i → done total ≡ path_size pool p
+    summing_ends few h = counted few (adding_ends (size_in pool) most_bytes (size_short pool) (slots_of p) m h)
 
-    module _ (h : i < p.count) (r : Wrote) (is : paper_size r ≡ segment_size pool (get_or p.slots i none).segment) where
-      pub summing_stops : (e : Refusal) → r ≡ Refused e → refused (number e) ≡ path_size pool p
-      summing_stops e f = counted few (adding_stops (size_in pool) most_bytes (size_short pool) (slots_of p) m (next p full few i h) (number e) (sym is ∙ ap paper_size f))
+    module _ (h : i < length (slots_of p)) where
+      pub summing_stops : p.count ≤ max_segments → (k : ℕ) → refused k ≡ size_in pool (get_or (slots_of p) i none) → refused k ≡ path_size pool p
+      summing_stops few k e = counted few (adding_stops (size_in pool) most_bytes (size_short pool) (slots_of p) m (next (slots_of p) i h) k (sym e))
 
-      module _ (n : ℕ) (f : r ≡ Size n) where
+      module _ (n : ℕ) (e : done n ≡ size_in pool (get_or (slots_of p) i none)) where
         pub summing_more : Summing pool p (total + n) (i + 1)
-        summing_more = adding_more (size_in pool) most_bytes (size_short pool) (slots_of p) m (next p full few i h) n (sym is ∙ ap paper_size f)
+        summing_more = adding_more (size_in pool) most_bytes (size_short pool) (slots_of p) m (next (slots_of p) i h) n (sym e)
 
-        pub summing_fits : Fits w64 (total + n)
-        summing_fits = record { fits = omega (arith, summing_more.small) }
+        pub summing_fits : p.count ≤ max_segments → length p.slots ≡ max_segments → Fits w64 (total + n)
+        summing_fits few g = record { fits = omega (arith, summing_more.small, length-take-le p.count p.slots) }
 
 pub ruleset summing_laws = (path_many, summing_first, summing_ends, summing_stops, summing_more, summing_fits)
 
@@ -149,17 +135,17 @@ path_sized pool p n h =
           ∙ ap length (joined_segs pool (slots_of p));
     }
 
-module _ (pool : List ℕ) (p : Path) (w : Wrote) (n : ℕ) (is : paper_size w ≡ path_size pool p) (h : w ≡ Size n) where
+module _ (pool : List ℕ) (p : Path) (n : ℕ) (e : done n ≡ path_size pool p) where
   pub path_few : p.count ≤ max_segments
-  path_few = (path_sized pool p n (sym is ∙ ap paper_size h)).few
+  path_few = (path_sized pool p n (sym e)).few
 
   pub path_good : AllGood pool p
-  path_good = (path_sized pool p n (sym is ∙ ap paper_size h)).good
+  path_good = (path_sized pool p n (sym e)).good
 
   pub path_length : n ≡ length (encode (segs_of pool p))
-  path_length = (path_sized pool p n (sym is ∙ ap paper_size h)).size
+  path_length = (path_sized pool p n (sym e)).size
 
-  pub path_room : (old : List ℕ) → n ≤ length old → length (encode (segs_of pool p)) ≤ length old
-  path_room old l = omega (arith, path_length)
+  pub path_room : (room : ℕ) → n ≤ room → length (encode (segs_of pool p)) ≤ room
+  path_room room l = omega (arith, path_length)
 
 pub ruleset path_laws = (path_few, path_good, path_length, path_room)

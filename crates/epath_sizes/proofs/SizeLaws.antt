@@ -1,21 +1,19 @@
 -- Each end of the sizes, as a law with plain conditions. Assumes nothing.
-use Prim.Native.Nat.{ℕ, ◌+◌, ◌-◌, ◌%◌, ◌≤◌, ◌<◌}
+use Prim.Native.Nat.{ℕ, ◌+◌, ◌-◌, ◌≤◌, ◌<◌}
 use mathlib.Core.Path.{◌≡◌, refl, sym, ap, ◌∙◌}
 use mathlib.Core.List.{List, [], ◌∷◌, ◌++◌}
 use mathlib.Core.Logic.{⊎_elim}
-use native.Mathlib.Nat.{add-zero}
 use native.Mathlib.Omega.{arith}
 use lib.ListN.{length, length-append}
 use lib.Dec.{leb}
 use mir.Val.{Fits}
 use mir.Syntax.{w64}
 use borrow.Author.Tests.{le-leb, lt-leb}
+use Rattle.std.specs.Prelude.{Result, Ok, Err}
 use Rattle.wire.specs.Parts.{part}
 use Rattle.wire.specs.Refusals.{number}
-use Rattle.wire.specs.Answers.{Answer, done, refused, paper_size, Rule, judged, KeepsAll}
+use Rattle.wire.specs.Answers.{Answer, done, refused, paper, Rule, judged, KeepsAll}
 use Rattle.wire.specs.declared.Refusal.{Refusal}
-use Rattle.wire.specs.declared.Wrote.{Wrote}
-use Rattle.wire.specs.declared.Wrote.TheVariants.{Size, Refused}
 use Rattle.wire.proofs.Rules.{done_same, all_were, all_keep, same_refusal}
 use Rattle.wire.proofs.Numbers.{below_or}
 use Rattle.wire.proofs.Stores.{part_length}
@@ -27,7 +25,7 @@ use Rattle.epath_sizes.specs.declared.Segment.{Segment}
 use Rattle.epath_sizes.specs.declared.Segment.TheVariants.{Symbol, Class, Instance, Attribute, Element, Port}
 use Rattle.epath_sizes.specs.declared.PortSegment.{PortSegment}
 use Rattle.epath_sizes.specs.declared.SymbolSegment.{SymbolSegment}
-use Rattle.epath_sizes.proofs.Forms.{pick_each, head_short, head_long, head_escaped, head_both}
+use Rattle.epath_sizes.proofs.Forms.{pick_each}
 
 -- ---- logical segments
 pub logical_narrow : (code v : ℕ) → v ≤ 255 → 2 ≡ length (logical code v)
@@ -49,38 +47,13 @@ logical_any code v = ⊎_elim
     (λ (h : v ≤ 255). sym (logical_narrow 0 v h) ∙ logical_narrow code v h)
     (below_or 255 v)
 
-pub ruleset logical_laws = (logical_narrow, logical_wide, logical_widest)
-
 -- ---- pads and heads
-module _ (n : ℕ) where
-  pub even_is : n % 2 ≡ 0 → n ≡ n + length (pad n)
-  even_is h = simp (h, add-zero)
-
-  pub odd_is : (n % 2 ≡ 0 → ⊥) → n + 1 ≡ n + length (pad n)
-  odd_is h = let e : n % 2 ≡ 1 = omega arith in simp e
-
-pub ruleset pad_laws = (even_is, odd_is)
-
 module _ (p n : ℕ) where
-  pub head_one : p ≤ near_port → n ≤ 1 → 1 ≡ length (port_head p n)
-  head_one h l = sym (ap length (head_short p n h l))
-
-  pub head_two : p ≤ near_port → 1 < n → 2 ≡ length (port_head p n)
-  head_two h l = sym (ap length (head_long p n h l))
-
-  pub head_three : near_port < p → n ≤ 1 → 3 ≡ length (port_head p n)
-  head_three h l = sym (ap length (head_escaped p n h l))
-
-  pub head_four : near_port < p → 1 < n → 4 ≡ length (port_head p n)
-  head_four h l = sym (ap length (head_both p n h l))
-
   -- a head has at most four bytes
   pub head_most : length (port_head p n) ≤ 4
   head_most =
       let P : List ℕ → Type 0 = λ l. length l ≤ 4 in
       pick_each P (leb p near_port) _ _ (pick_each P (leb n 1) _ _ (omega arith) (omega arith)) (pick_each P (leb n 1) _ _ (omega arith) (omega arith))
-
-pub ruleset head_laws = (head_one, head_two, head_three, head_four)
 
 pub length_padded : (xs : List ℕ) → length (padded xs) ≡ length xs + length (pad (length xs))
 unfolding padded
@@ -97,16 +70,16 @@ keeps_inside limit n start len k = record { starts = k.0; ends = k.1.0; short = 
 
 -- ---- a segment that holds a part: a head, the part, a pad. The first rule that the part breaks refuses it
 module _ (pool : List ℕ) (t : Segment) (limit start len : ℕ) (same : segment_rules (length pool) t ≡ part_rules limit (length pool) start len)
-    (r : Wrote) (is : paper_size r ≡ judged (part_rules limit (length pool) start len) (done len)) where
-  part_refused : (e : Refusal) → r ≡ Refused e → refused (number e) ≡ segment_size pool t
+    (r : Result ℕ Refusal) (is : paper r ≡ judged (part_rules limit (length pool) start len) (done len)) where
+  part_refused : (e : Refusal) → r ≡ Err e → refused (number e) ≡ segment_size pool t
   unfolding segment_size
   part_refused e h =
-      sym (same_refusal _ len (done (length (encode_seg (meaning pool t)))) (number e) (sym is ∙ ap paper_size h))
+      sym (same_refusal _ len (done (length (encode_seg (meaning pool t)))) (number e) (sym is ∙ ap paper h))
       ∙ ap (λ (rs : List Rule). judged rs (done (length (encode_seg (meaning pool t))))) (sym same)
 
-  module _ (n : ℕ) (h : r ≡ Size n) where
+  module _ (n : ℕ) (h : r ≡ Ok n) where
     inside : Inside limit (length pool) start len × (n ≡ len)
-    inside = let w = all_were _ _ n (sym is ∙ ap paper_size h) in (keeps_inside _ _ _ _ w.0, sym (done_same w.1))
+    inside = let w = all_were _ _ n (sym is ∙ ap paper h) in (keeps_inside _ _ _ _ w.0, sym (done_same w.1))
 
     long : n ≡ length (part pool start len)
     long = inside.1 ∙ sym (part_length pool start len inside.0.ends)
@@ -120,11 +93,11 @@ module _ (pool : List ℕ) (t : Segment) (limit start len : ℕ) (same : segment
         ap done (g ∙ ap (λ (x : ℕ). x + length (pad x)) e ∙ sym (length_padded bs) ∙ ap length (sym bytes))
         ∙ sym (all_keep _ _ (rw same (inside.0.starts, (inside.0.ends, (inside.0.short, tt)))))
 
-module _ (pool : List ℕ) (y : SymbolSegment) (r : Wrote) (is : paper_size r ≡ judged (part_rules max_symbol (length pool) y.start y.len) (done y.len)) where
-  pub symbol_refused : (e : Refusal) → r ≡ Refused e → refused (number e) ≡ segment_size pool (Symbol y)
+module _ (pool : List ℕ) (y : SymbolSegment) (r : Result ℕ Refusal) (is : paper r ≡ judged (part_rules max_symbol (length pool) y.start y.len) (done y.len)) where
+  pub symbol_refused : (e : Refusal) → r ≡ Err e → refused (number e) ≡ segment_size pool (Symbol y)
   symbol_refused = part_refused pool (Symbol y) max_symbol y.start y.len refl r is
 
-  module _ (n : ℕ) (h : r ≡ Size n) where
+  module _ (n : ℕ) (h : r ≡ Ok n) where
     pub symbol_small : 2 + n < 1000
     symbol_small = let i = inside pool (Symbol y) max_symbol y.start y.len refl r is n h in omega (arith, i.0.short, i.1)
 
@@ -134,11 +107,11 @@ module _ (pool : List ℕ) (y : SymbolSegment) (r : Wrote) (is : paper_size r �
     pub symbol_sized : (m : ℕ) → m ≡ 2 + n + length (pad (2 + n)) → done m ≡ segment_size pool (Symbol y)
     symbol_sized m = part_sized pool (Symbol y) max_symbol y.start y.len refl r is n h (symbol_code ∷ length (part pool y.start y.len) ∷ []) 2 m refl refl
 
-module _ (pool : List ℕ) (q : PortSegment) (r : Wrote) (is : paper_size r ≡ judged (part_rules max_link (length pool) q.start q.len) (done q.len)) where
-  pub port_refused : (e : Refusal) → r ≡ Refused e → refused (number e) ≡ segment_size pool (Port q)
+module _ (pool : List ℕ) (q : PortSegment) (r : Result ℕ Refusal) (is : paper r ≡ judged (part_rules max_link (length pool) q.start q.len) (done q.len)) where
+  pub port_refused : (e : Refusal) → r ≡ Err e → refused (number e) ≡ segment_size pool (Port q)
   port_refused = part_refused pool (Port q) max_link q.start q.len refl r is
 
-  module _ (n : ℕ) (h : r ≡ Size n) (k : ℕ) (hd : k ≡ length (port_head q.port n)) where
+  module _ (n : ℕ) (h : r ≡ Ok n) (k : ℕ) (hd : k ≡ length (port_head q.port n)) where
     pub port_small : k + n < 1000
     port_small = let i = inside pool (Port q) max_link q.start q.len refl r is n h in omega (arith, i.0.short, i.1, head_most q.port n)
 

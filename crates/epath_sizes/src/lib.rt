@@ -55,7 +55,7 @@ fn connection_manager() -> [u8; 4]
 
 // ---- the list
 
-// A port, and its link: len bytes of the pool from start.
+// A port, and its link: len bytes of the pool from start, as document 01 has it in place of a heap.
 #[derive(Clone, Copy)]
 pub struct PortSegment {
     // to leave the node by; 1 is the backplane
@@ -86,7 +86,7 @@ pub struct Slot {
     pub segment: Segment,
 }
 
-// The first count slots are the list.
+// The first count slots are the list. No heap: document 01 fixes its memory, and a count over the limit is refused (3), so it stands beside.
 #[derive(Clone, Copy)]
 pub struct Path {
     pub slots: [Slot; MAX_SEGMENTS],

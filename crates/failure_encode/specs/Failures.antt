@@ -1,17 +1,16 @@
 -- The bytes of a Forward Open's or a Forward Close's reply that tells of failure (CIP Volume 1, 2-4.2, 3-5.5.2 and 3-5.5.3): the header; what names
 -- the connection; for a routing error the size of the path that was left, in words. Assumes nothing: these are definitions.
 use Rattle.std.specs.Prelude.{ℕ, List, [], ◌∷◌, ◌++◌}
+use Rattle.std.specs.Prelude.{Option, Some, None}
 use Rattle.wire.specs.Records.{Field, byte, laid}
 use Rattle.connection.specs.declared.ForwardRequestFail.{ForwardRequestFail}
-use Rattle.connection.specs.declared.RemainingPathSize.{RemainingPathSize}
-use Rattle.connection.specs.declared.RemainingPathSize.TheVariants.{Absent as NoSize, Words}
 use Rattle.connection_words.specs.Requests.{triad}
 use Rattle.statuses.specs.Layouts.{header_fields}
 use Rattle.statuses.specs.declared.Status.{Status}
 
-abbrev pub remaining_fields : RemainingPathSize → List Field
-remaining_fields NoSize = []
-remaining_fields (Words w) = byte w ∷ []
+abbrev pub remaining_fields : Option ℕ → List Field
+remaining_fields None = []
+remaining_fields (Some w) = byte w ∷ []
 
 abbrev pub failure_fields : ForwardRequestFail → List Field
 failure_fields f =

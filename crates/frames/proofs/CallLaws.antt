@@ -1,28 +1,24 @@
 -- Each end of a call, as a law with plain conditions. Assumes nothing.
-use Prim.Native.Nat.{ℕ, zero, suc, ◌+◌, ◌*◌, ◌-◌, ◌≤◌, ◌<◌}
+use Prim.Native.Nat.{ℕ, zero, suc, ◌+◌, ◌-◌, ◌≤◌, ◌<◌}
 use mathlib.Core.Path.{◌≡◌, refl, sym, ap, ◌∙◌}
 use mathlib.Core.List.{List, [], ◌∷◌, ◌++◌}
 use mathlib.Core.Bool.{true, false}
 use mathlib.Core.Logic.{◌⊎◌, inl, inr}
 use native.Mathlib.Omega.{arith}
-use lib.ListN.{length, get_or, take, drop, length-append, get_or-append}
-use lib.Seq.{sets, length-take-le, get_or-append-add, get_or-take}
+use lib.ListN.{length, get_or, take, drop, length-append}
+use lib.Seq.{sets, length-take-le}
 use borrow.Author.Tests.{lt-ltb, le-ltb, eq-eqb, ne_eqb}
+use mir.Syntax.{w16}
+use Rattle.std.specs.Int.{from_le_bytes}
 use Rattle.wire.specs.Numbers.{value_of}
 use Rattle.wire.specs.Parts.{part}
-use Rattle.wire.specs.Refusals.{number}
-use Rattle.wire.specs.Answers.{Answer, done, refused, Rule, under, over, other, judged, KeepsAll, paper_count}
-use Rattle.wire.specs.declared.Refusal.{Refusal}
-use Rattle.wire.specs.declared.Counted.{Counted}
-use Rattle.wire.specs.declared.Counted.TheVariants.{Count, Refused as NotCounted}
+use Rattle.wire.specs.Answers.{Answer, done, refused, Rule, under, over, other, judged, KeepsAll}
 use Rattle.wire.proofs.Rules.{rules, all_keep, all_were, same_refusal}
 use Rattle.wire.proofs.Numbers.{value_two, below_or}
 use Rattle.frames.specs.Frames.{header_size, length_at, max_frame, frame_length, Opening, no_header, too_long, begun, whole, opening_of}
 use Rattle.frames.specs.Conditions.{Serves}
-use Rattle.frames.specs.Calls.{reset_state, flag, state_rules, room_rules, admitted, since, length_of, brought, outcome, Handed, frame, answer_of, state_of, buffer_of, scrap_answer, state_after, buffer_after, paper_took}
+use Rattle.frames.specs.Calls.{reset_state, flag, state_rules, room_rules, admitted, since, length_of, brought, outcome, Handed, all, frame, answer_of, state_of, buffer_of, scrap_answer, state_after, buffer_after}
 use Rattle.frames.specs.declared.FrameState.{FrameState}
-use Rattle.frames.specs.declared.Stepped.{Stepped}
-use Rattle.frames.specs.declared.Took.TheVariants.{All}
 
 -- ---- does the buffer serve
 module _ (s : FrameState) (room : ℕ) where
@@ -94,38 +90,29 @@ module _ (s : FrameState) (room : ℕ) {A : Type 0} (y : Answer A) where
 pub ruleset admit_laws = (admit_length, admit_few, admit_refused, admit_longest, admit_whole, admit_many)
 
 -- ---- the bytes since the last frame's end
-module _ (held : ℕ) (buffer scrap : List ℕ) (k : held ≤ length buffer) where
-  pub since_length : length (since held buffer scrap) ≡ held + length scrap
-  since_length = length-append (take held buffer) scrap ∙ rw (length-take-le held buffer k)
+pub since_length : (held : ℕ) (buffer scrap : List ℕ) → held ≤ length buffer → length (since held buffer scrap) ≡ held + length scrap
+since_length held buffer scrap k = length-append (take held buffer) scrap ∙ rw (length-take-le held buffer k)
 
-  module _ (b at : ℕ) where
-    pub since_kept : at < held → b ≡ get_or buffer at 0 → b ≡ get_or (since held buffer scrap) at 0
-    since_kept h e =
-        e ∙ sym (get_or-append (take held buffer) scrap 0 at (rw (length-take-le held buffer k) h) ∙ get_or-take held buffer at 0 h)
-
-    pub since_new : held ≤ at → b ≡ get_or scrap (at - held) 0 → b ≡ get_or (since held buffer scrap) at 0
-    since_new h e =
-        let m : length (take held buffer) + (at - held) ≡ at = omega (arith, length-take-le held buffer k) in
-        e ∙ sym (get_or-append-add (take held buffer) scrap (at - held) 0) ∙ ap (λ (i : ℕ). get_or (since held buffer scrap) i 0) m
-
-pub ruleset since_laws = (since_kept, since_new)
+pub zero_or : (n : ℕ) → (n ≡ 0) ⊎ (n ≡ 0 → ⊥)
+zero_or zero = inl refl
+zero_or (suc n) = inr (λ e. omega arith)
 
 -- ---- the frame's length
-module _ (held : ℕ) (buffer scrap : List ℕ) (k : held ≤ length buffer) (h : held < header_size) where
-  abbrev here : List ℕ
-  here = since held buffer scrap
-
-  pub header_cut : length scrap < header_size - held → 0 ≡ frame_length here
+module _ (kept scrap : List ℕ) where
+  pub header_cut : length kept + length scrap < header_size → frame_length (kept ++ scrap) ≡ 0
   unfolding frame_length
   header_cut g =
-      let l : length here < header_size = omega (arith, since_length held buffer scrap k) in
-      simp (lt-ltb (length here) header_size l)
+      let l : length (kept ++ scrap) < header_size = omega (arith, length-append kept scrap) in
+      simp (lt-ltb (length (kept ++ scrap)) header_size l)
 
-  pub header_read : (a b : ℕ) → header_size - held ≤ length scrap → a ≡ get_or here length_at 0 → b ≡ get_or here (length_at + 1) 0 → header_size + (a + 256 * b) ≡ frame_length here
+  pub header_read : (a b n : ℕ) → header_size ≤ length kept + length scrap → a ≡ get_or (kept ++ scrap) length_at 0 → b ≡ get_or (kept ++ scrap) (length_at + 1) 0
+      → n ≡ from_le_bytes w16 (a ∷ b ∷ [])
+      → header_size + n ≡ frame_length (kept ++ scrap)
   unfolding frame_length
-  header_read a b g p q =
-      let l : header_size ≤ length here = omega (arith, since_length held buffer scrap k) in
-      simp (le-ltb (length here) header_size l, value_two here length_at a b p q)
+  header_read a b n g p q m =
+      let l : header_size ≤ length (kept ++ scrap) = omega (arith, length-append kept scrap) in
+      let v : n ≡ value_of 2 (drop length_at (kept ++ scrap)) = omega (arith, m, value_two (kept ++ scrap) length_at a b p q) in
+      ap (λ (z : ℕ). header_size + z) v ∙ simp (le-ltb (length (kept ++ scrap)) header_size l)
 
 pub ruleset header_laws = (header_cut, header_read)
 
@@ -136,16 +123,7 @@ module _ (s : FrameState) (t : List ℕ) where
   pub length_read : (n : ℕ) → s.length ≡ 0 → n ≡ frame_length t → n ≡ length_of s.length t
   length_read n f e = e ∙ simp (eq-eqb s.length 0 f)
 
-pub serves_header : (s : FrameState) (room : ℕ) → Serves s room → s.length ≡ 0 → s.held < header_size
-serves_header s room v f = v.headless f
-
-pub ruleset length_laws = (length_known, length_read, serves_header)
-
 -- ---- what was brought
-pub zero_or : (n : ℕ) → (n ≡ 0) ⊎ (n ≡ 0 → ⊥)
-zero_or zero = inl refl
-zero_or (suc n) = inr (λ e. omega arith)
-
 -- a length that is known is that of a header and its data
 pub frame_some : (t : List ℕ) → (frame_length t ≡ 0 → ⊥) → (header_size ≤ length t) × (frame_length t ≡ header_size + value_of 2 (drop length_at t))
 unfolding frame_length
@@ -175,59 +153,56 @@ module _ (room n : ℕ) (t : List ℕ) where
       unfolding opening_of
       opens_whole l = simp (ne_eqb n 0 f, le-ltb room n h, le-ltb (length t) n l)
 
-module _ (s : FrameState) (buffer scrap : List ℕ) (v : Serves s (length buffer)) (n : ℕ) (of : n ≡ length_of s.length (since s.held buffer scrap)) where
+module _ (s : FrameState) (buffer scrap : List ℕ) (v : Serves s (length buffer)) where
   abbrev now : List ℕ
   now = since s.held buffer scrap
 
   abbrev room : ℕ
   room = length buffer
 
-  is : {o : Opening} → opening_of room n now ≡ o → brought s buffer scrap ≡ o
-  unfolding brought
-  is e = ap (λ (k : ℕ). opening_of room k now) (sym of) ∙ e
-
   -- the answer, the state and the buffer of each
-  module _ (o : Opening) (e : opening_of room n now ≡ o) where
+  module _ (n : ℕ) (of : n ≡ length_of s.length now) (o : Opening) (e : opening_of room n now ≡ o) where
+    is : brought s buffer scrap ≡ o
+    unfolding brought
+    is = ap (λ (k : ℕ). opening_of room k now) (sym of) ∙ e
+
     answers : {z : Answer Handed} → z ≡ answer_of (done o) s.held → z ≡ answer_of (done (brought s buffer scrap)) s.held
-    answers p = p ∙ ap (λ (x : Opening). answer_of (done x) s.held) (sym (is e))
+    answers p = p ∙ ap (λ (x : Opening). answer_of (done x) s.held) (sym is)
 
     states : {z : FrameState} → z ≡ state_of (done o) s scrap → z ≡ state_of (done (brought s buffer scrap)) s scrap
-    states p = p ∙ ap (λ (x : Opening). state_of (done x) s scrap) (sym (is e))
+    states p = p ∙ ap (λ (x : Opening). state_of (done x) s scrap) (sym is)
 
     buffers : {z : List ℕ} → z ≡ buffer_of (done o) s.held buffer scrap → z ≡ buffer_of (done (brought s buffer scrap)) s.held buffer scrap
-    buffers p = p ∙ ap (λ (x : Opening). buffer_of (done x) s.held buffer scrap) (sym (is e))
+    buffers p = p ∙ ap (λ (x : Opening). buffer_of (done x) s.held buffer scrap) (sym is)
 
-  module _ (r : Stepped) where
-    module _ (h : n ≡ 0) (e : r ≡ record { state = record { held = s.held + length scrap; length = 0; refused = false }; took = All }) where
-      pub none_answer : paper_took r.took ≡ answer_of (done (brought s buffer scrap)) s.held
-      none_answer = answers no_header (opens_none room n now h) (ap (λ (x : Stepped). paper_took x.took) e)
+  -- no header is there
+  module _ (h : length_of s.length now ≡ 0) where
+    abbrev zero_is : 0 ≡ length_of s.length now
+    zero_is = sym h
 
-      pub none_state : r.state ≡ state_of (done (brought s buffer scrap)) s scrap
-      none_state = states no_header (opens_none room n now h) (ap (λ (x : Stepped). x.state) e)
+    pub none_answer : done all ≡ answer_of (done (brought s buffer scrap)) s.held
+    none_answer = answers 0 zero_is no_header (opens_none room 0 now refl) refl
 
-    module _ (f : n ≡ 0 → ⊥) (h : n ≤ room) (l : length scrap < n - s.held) (e : r ≡ record { state = record { held = s.held + length scrap; length = n; refused = false }; took = All }) where
-      abbrev short : opening_of room n now ≡ begun n
-      short = opens_begun room n now f h (omega (arith, since_length s.held buffer scrap v.kept))
+    pub none_state : record { held = s.held + length scrap; length = 0; refused = false } ≡ state_of (done (brought s buffer scrap)) s scrap
+    none_state = states 0 zero_is no_header (opens_none room 0 now refl) refl
 
-      pub begun_answer : paper_took r.took ≡ answer_of (done (brought s buffer scrap)) s.held
-      begun_answer = answers (begun n) short (ap (λ (x : Stepped). paper_took x.took) e)
+    pub none_bytes : (new : List ℕ) → new ≡ sets buffer s.held scrap → new ≡ buffer_of (done (brought s buffer scrap)) s.held buffer scrap
+    none_bytes new e = buffers 0 zero_is no_header (opens_none room 0 now refl) e
 
-      pub begun_state : r.state ≡ state_of (done (brought s buffer scrap)) s scrap
-      begun_state = states (begun n) short (ap (λ (x : Stepped). x.state) e)
+  -- a frame of n bytes
+  module _ (n : ℕ) (of : n ≡ length_of s.length now) (some : 0 < n) where
+    abbrev f : n ≡ 0 → ⊥
+    f e = omega arith
 
-  pub none_bytes : (new : List ℕ) → n ≡ 0 → new ≡ sets buffer s.held scrap → new ≡ buffer_of (done (brought s buffer scrap)) s.held buffer scrap
-  none_bytes new h e = buffers no_header (opens_none room n now h) e
-
-  module _ (f : n ≡ 0 → ⊥) where
     module _ (h : room < n) where
       pub long_answer : refused 2 ≡ answer_of (done (brought s buffer scrap)) s.held
-      long_answer = answers too_long (opens_long room n now f h) refl
+      long_answer = answers n of too_long (opens_long room n now f h) refl
 
       pub long_state : record { held = s.held; length = s.length; refused = true } ≡ state_of (done (brought s buffer scrap)) s scrap
-      long_state = states too_long (opens_long room n now f h) refl
+      long_state = states n of too_long (opens_long room n now f h) refl
 
       pub long_bytes : buffer ≡ buffer_of (done (brought s buffer scrap)) s.held buffer scrap
-      long_bytes = buffers too_long (opens_long room n now f h) refl
+      long_bytes = buffers n of too_long (opens_long room n now f h) refl
 
     -- what is held is less than the frame
     pub length_left : s.held ≤ n
@@ -240,21 +215,31 @@ module _ (s : FrameState) (buffer scrap : List ℕ) (v : Serves s (length buffer
         go (inr z) = omega (arith, of ∙ sym (length_known s now z), v.known z)
 
     module _ (h : n ≤ room) where
-      pub begun_bytes : (new : List ℕ) → length scrap < n - s.held → new ≡ sets buffer s.held scrap → new ≡ buffer_of (done (brought s buffer scrap)) s.held buffer scrap
-      begun_bytes new l e = buffers (begun n) (opens_begun room n now f h (omega (arith, since_length s.held buffer scrap v.kept))) e
+      module _ (l : length scrap < n - s.held) where
+        abbrev short : opening_of room n now ≡ begun n
+        short = opens_begun room n now f h (omega (arith, since_length s.held buffer scrap v.kept))
+
+        pub begun_answer : done all ≡ answer_of (done (brought s buffer scrap)) s.held
+        begun_answer = answers n of (begun n) short refl
+
+        pub begun_state : (z : FrameState) → z ≡ record { held = s.held + length scrap; length = n; refused = false } → z ≡ state_of (done (brought s buffer scrap)) s scrap
+        begun_state z e = states n of (begun n) short e
+
+        pub begun_bytes : (new : List ℕ) → new ≡ sets buffer s.held scrap → new ≡ buffer_of (done (brought s buffer scrap)) s.held buffer scrap
+        begun_bytes new e = buffers n of (begun n) short e
 
       module _ (l : n - s.held ≤ length scrap) where
         abbrev full : opening_of room n now ≡ whole n
         full = opens_whole room n now f h (omega (arith, since_length s.held buffer scrap v.kept))
 
         pub whole_answer : done (frame n (n - s.held)) ≡ answer_of (done (brought s buffer scrap)) s.held
-        whole_answer = answers (whole n) full refl
+        whole_answer = answers n of (whole n) full refl
 
         pub whole_state : (z : FrameState) → z ≡ reset_state → z ≡ state_of (done (brought s buffer scrap)) s scrap
-        whole_state z e = states (whole n) full e
+        whole_state z e = states n of (whole n) full e
 
         pub whole_bytes : (new p : List ℕ) → p ≡ part scrap 0 (n - s.held) → new ≡ sets buffer s.held p → new ≡ buffer_of (done (brought s buffer scrap)) s.held buffer scrap
-        whole_bytes new p q e = buffers (whole n) full (e ∙ ap (sets buffer s.held) q)
+        whole_bytes new p q e = buffers n of (whole n) full (e ∙ ap (sets buffer s.held) q)
 
 pub ruleset collect_laws = (none_answer, none_state, none_bytes, begun_answer, begun_state, begun_bytes, long_answer, long_state, long_bytes, length_left, whole_answer, whole_state, whole_bytes)
 
@@ -299,13 +284,13 @@ module _ {A : Type 0} (s : FrameState) (room : ℕ) (x : A) where
   pub admitted_keeps : (y : A) → admitted s room (done x) ≡ done y → KeepsAll (state_rules s) × KeepsAll (room_rules s room)
   admitted_keeps y h = keeps_both (state_rules s) (room_rules s room) (all_were (state_rules s ++ room_rules s room) (done x) y h).0
 
-module _ (s : FrameState) (buffer scrap : List ℕ) (v : Counted) (of : paper_count v ≡ admitted s (length buffer) (done s.length)) where
-  module _ (e : Refusal) (h : v ≡ NotCounted e) where
-    stopped : outcome s buffer scrap ≡ refused (number e)
+module _ (s : FrameState) (buffer scrap : List ℕ) where
+  module _ (k : ℕ) (of : refused k ≡ admitted {A = Unit {0}} s (length buffer) (done tt)) where
+    stopped : outcome s buffer scrap ≡ refused k
     unfolding outcome
-    stopped = same_refusal (state_rules s ++ room_rules s (length buffer)) s.length (done (brought s buffer scrap)) (number e) (sym of ∙ ap paper_count h)
+    stopped = same_refusal (state_rules s ++ room_rules s (length buffer)) tt (done (brought s buffer scrap)) k (sym of)
 
-    pub refused_answer : refused (number e) ≡ scrap_answer s buffer scrap
+    pub refused_answer : refused k ≡ scrap_answer s buffer scrap
     refused_answer = ap (λ (o : Answer Opening). answer_of o s.held) (sym stopped)
 
     pub refused_state : s ≡ state_after s buffer scrap
@@ -314,9 +299,9 @@ module _ (s : FrameState) (buffer scrap : List ℕ) (v : Counted) (of : paper_co
     pub refused_bytes : buffer ≡ buffer_after s buffer scrap
     refused_bytes = ap (λ (o : Answer Opening). buffer_of o s.held buffer scrap) (sym stopped)
 
-  module _ (n : ℕ) (h : v ≡ Count n) where
+  module _ (of : done tt ≡ admitted {A = Unit {0}} s (length buffer) (done tt)) where
     abbrev kept : KeepsAll (state_rules s) × KeepsAll (room_rules s (length buffer))
-    kept = admitted_keeps s (length buffer) s.length n (sym of ∙ ap paper_count h)
+    kept = admitted_keeps s (length buffer) tt tt (sym of)
 
     pub taken_serves : Serves s (length buffer)
     taken_serves = serves s (length buffer) kept.0 kept.1

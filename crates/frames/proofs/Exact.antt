@@ -2,20 +2,31 @@
 -- Assumes nothing.
 use mathlib.Core.Path.{◌≡◌, refl, ap}
 use Rattle.exact.specs.Exact.{Exact, exact, says, same}
-use Rattle.wire.proofs.Answers.{one_by, number_back, from_paper}
-use Rattle.frames.specs.Calls.{all, frame, paper_took}
-use Rattle.frames.specs.declared.Took.{Took}
-use Rattle.frames.specs.declared.Took.TheVariants.{All, Whole, Refused}
+use Rattle.wire.proofs.Answers.{one_by, refusal_of, number_back}
+use Rattle.frames.specs.Calls.{Handed, all, frame, paper_took}
+use Rattle.std.specs.Prelude.{Option, Some, None, Result, Ok, Err}
+use Rattle.wire.specs.Answers.{Answer, done, refused}
+use Rattle.wire.specs.declared.Refusal.{Refusal}
+use Rattle.frames.specs.declared.Frame.{Frame}
 use Rattle.frames.specs.contracts.reset_state
 use Rattle.frames.specs.contracts.step
 use Rattle.frames.specs.contracts.take_scrap
 use Rattle.frames.specs.contracts.reset
 
 -- an answer's form on paper says which answer it is
-pub took_one : (a b : Took) → paper_took a ≡ paper_took b → a ≡ b
-took_one =
-    one_by paper_took (from_paper (elim [ all ↦ All | frame n k ↦ Whole (record { length = n; taken = k }) ]) Refused)
-    (elim [ All ↦ refl | Whole f ↦ refl | Refused e ↦ ap Refused (number_back e) ])
+took_of : Answer Handed → Result (Option Frame) Refusal
+took_of (done all) = Ok None
+took_of (done (frame n k)) = Ok (Some (record { length = n; taken = k }))
+took_of (refused k) = Err (refusal_of k)
+
+took_back : (r : Result (Option Frame) Refusal) → took_of (paper_took r) ≡ r
+unfolding took_of
+took_back (Ok None) = refl
+took_back (Ok (Some f)) = refl
+took_back (Err e) = ap Err (number_back e)
+
+pub took_one : (a b : Result (Option Frame) Refusal) → paper_took a ≡ paper_took b → a ≡ b
+took_one = one_by paper_took took_of took_back
 
 pub reset_state_exact : Exact reset_state.ended (λ _ _. reset_state.clauses)
 reset_state_exact = exact (λ w κs a. (tt, λ m. tt)) (λ w κs a g z e. search says) (λ t. (same t.said t.said', refl))

@@ -1,13 +1,13 @@
 -- What a call of the collector answers and leaves, executable; rules and numbers from document 02, Wish 1. Assumes nothing: these are definitions.
-use Rattle.std.specs.Prelude.{ℕ, ◌+◌, ◌-◌, List, [], ◌∷◌, ◌++◌, Bool, true, false, length, take, ltb, eqb}
+use Rattle.std.specs.Prelude.{ℕ, ◌+◌, ◌-◌, List, [], ◌∷◌, ◌++◌, Bool, true, false, length, take, ltb, eqb, Option, Some, None, Result, Ok, Err}
 use Rattle.std.proofs.lemmas.List.Edits.{sets}
 use Rattle.wire.specs.Choice.{pick}
 use Rattle.wire.specs.Refusals.{number}
 use Rattle.wire.specs.Answers.{Answer, done, refused, Rule, under, over, other, judged}
 use Rattle.frames.specs.Frames.{header_size, max_frame, frame_length, Opening, no_header, too_long, begun, whole, opening_of}
 use Rattle.frames.specs.declared.FrameState.{FrameState}
-use Rattle.frames.specs.declared.Took.{Took}
-use Rattle.frames.specs.declared.Took.TheVariants.{All, Whole, Refused}
+use Rattle.frames.specs.declared.Frame.{Frame}
+use Rattle.wire.specs.declared.Refusal.{Refusal}
 
 -- nothing held, nothing refused
 abbrev pub reset_state : FrameState
@@ -87,7 +87,7 @@ buffer_after s buffer scrap = buffer_of (outcome s buffer scrap) s.held buffer s
 
 -- ---- what the functions answer
 
-abbrev pub paper_took : Took → Answer Handed
-paper_took All = done all
-paper_took (Whole f) = done (frame f.length f.taken)
-paper_took (Refused e) = refused (number e)
+abbrev pub paper_took : Result (Option Frame) Refusal → Answer Handed
+paper_took (Ok None) = done all
+paper_took (Ok (Some f)) = done (frame f.length f.taken)
+paper_took (Err e) = refused (number e)

@@ -2,42 +2,21 @@
 #![tactic(auto)]
 
 ghost use Rattle.std.specs.Prelude.{◌≡◌};
-ghost use Rattle.lines.specs.Lines.{hex_value, byte_of, next, kept, next_digit, kept_digit, next_char, kept_char};
+ghost use Rattle.lines.specs.Lines.{digit_of, byte_of, next, kept, next_digit, kept_digit, next_char, kept_char};
 
 use lines::{Line, MAX_DIGITS};
 
-// What digit_value answers for a character that is no digit.
-const NO_DIGIT: u8 = 16;
-
-const TAB: u8 = 9;
-
-const BLANK: u8 = 32;
-
-const COMMENT: u8 = 35;
-
 // The value of a hex digit in either case.
-fn digit_value(b: u8) -> u8
-    ensures { result ≡ hex_value b }
+#[tactic(auto, using(lines::proofs::LineLaws::value_laws))]
+fn digit_value(b: u8) -> Option<u8>
+    ensures { result ≡ digit_of b }
 {
-    if b <= 47 {
-        return NO_DIGIT;
+    match b {
+        b'0'..=b'9' => Some(b - b'0'),
+        b'A'..=b'F' => Some(b - b'A' + 10),
+        b'a'..=b'f' => Some(b - b'a' + 10),
+        _ => None,
     }
-    if b <= 57 {
-        return b - 48;
-    }
-    if b <= 64 {
-        return NO_DIGIT;
-    }
-    if b <= 70 {
-        return b - 55;
-    }
-    if b <= 96 {
-        return NO_DIGIT;
-    }
-    if b <= 102 {
-        return b - 87;
-    }
-    NO_DIGIT
 }
 
 // The byte of two digits.
@@ -48,6 +27,7 @@ fn byte_of(high: u8, low: u8) -> u8
 }
 
 // A digit: every second one makes a byte with the one before it.
+#[tactic(auto, using(lines::proofs::LineLaws::take_laws))]
 fn take_digit(n: usize, high: u8, v: u8, out: &mut [u8]) -> Line
     ensures value { result ≡ next_digit n v }
     ensures out_after { out.new ≡ kept_digit n high v out.old }
@@ -55,32 +35,26 @@ fn take_digit(n: usize, high: u8, v: u8, out: &mut [u8]) -> Line
     if MAX_DIGITS <= n {
         return Line::Bad;
     }
-    if n % 2 == 0 {
-        return Line::Digits(n + 1, v);
+    if n % 2 != 0 {
+        wire_write::put_byte(out, n / 2, byte_of(high, v));
     }
-    wire_write::put_byte(out, n / 2, byte_of(high, v));
     Line::Digits(n + 1, v)
 }
 
 // A character of a line that still takes digits.
+#[tactic(auto, using(lines::proofs::LineLaws::char_laws))]
 fn take_one(n: usize, high: u8, b: u8, out: &mut [u8]) -> Line
     ensures value { result ≡ next_char n high b }
     ensures out_after { out.new ≡ kept_char n high b out.old }
 {
-    if b == BLANK {
-        return Line::Digits(n, high);
+    match b {
+        b' ' | b'\t' => Line::Digits(n, high),
+        b'#' => Line::Comment(n),
+        _ => match digit_value(b) {
+            Some(v) => take_digit(n, high, v, out),
+            None => Line::Bad,
+        },
     }
-    if b == TAB {
-        return Line::Digits(n, high);
-    }
-    if b == COMMENT {
-        return Line::Comment(n);
-    }
-    let v = digit_value(b);
-    if NO_DIGIT <= v {
-        return Line::Bad;
-    }
-    take_digit(n, high, v, out)
 }
 
 // The line with one more character, which is no newline; the byte that it completes goes to its place in out.
@@ -90,7 +64,6 @@ pub fn take_char(l: Line, b: u8, out: &mut [u8]) -> Line
 {
     match l {
         Line::Digits(n, high) => take_one(n, high, b, out),
-        Line::Comment(n) => Line::Comment(n),
-        Line::Bad => Line::Bad,
+        Line::Comment(_) | Line::Bad => l,
     }
 }

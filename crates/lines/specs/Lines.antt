@@ -1,6 +1,6 @@
 -- A line of text that stands for bytes: two hex digits a byte, in either case. Blanks and tabs are passed over, `#` starts a comment, any other
 -- character spoils the line. Assumes nothing: these are definitions.
-use Rattle.std.specs.Prelude.{ℕ, ◌+◌, ◌*◌, ◌/◌, ◌%◌, ◌-◌, List, [], ◌∷◌, set, leb, eqb}
+use Rattle.std.specs.Prelude.{ℕ, ◌+◌, ◌*◌, ◌/◌, ◌%◌, ◌-◌, List, [], ◌∷◌, set, leb, eqb, Option, Some, None}
 use Rattle.wire.specs.Choice.{pick}
 use Rattle.lines.specs.declared.Line.{Line}
 use Rattle.lines.specs.declared.Case.{Case}
@@ -22,6 +22,10 @@ hex_value b =
     (pick (leb b 70) (b - 55)
     (pick (leb b 96) no_digit
     (pick (leb b 102) (b - 87) no_digit)))))
+
+-- that value, where there is one
+unfoldable pub digit_of : ℕ → Option ℕ
+digit_of b = pick (leb no_digit (hex_value b)) None (Some (hex_value b))
 
 abbrev pub byte_of : ℕ → ℕ → ℕ
 byte_of high low = 16 * (high % 16) + low % 16

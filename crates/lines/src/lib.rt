@@ -16,7 +16,7 @@ pub enum Line {
     Bad,
 }
 
-// A whole line: nothing on it, so many bytes, or no case.
+// A whole line: nothing on it, so many bytes, or no case. (No `Result<Option<usize>, ..>`: each of the three is an answer, which no `?` hands on.)
 #[derive(Clone, Copy)]
 pub enum Case {
     Nothing,
@@ -31,16 +31,15 @@ pub fn blank_line() -> Line
     Line::Digits(0, 0)
 }
 
+#[tactic(auto, using(crate::proofs::LineLaws::case_laws))]
 fn case_of(n: usize) -> Case
     ensures { result ≡ case_of n }
 {
-    if n == 0 {
-        return Case::Nothing;
+    match n {
+        0 => Case::Nothing,
+        n if n % 2 == 0 => Case::Bytes(n / 2),
+        _ => Case::Bad,
     }
-    if n % 2 == 0 {
-        return Case::Bytes(n / 2);
-    }
-    Case::Bad
 }
 
 // What a line is, once its last character was taken.
@@ -48,8 +47,7 @@ pub fn line_case(l: Line) -> Case
     ensures { result ≡ case_line l }
 {
     match l {
-        Line::Digits(n, _) => case_of(n),
-        Line::Comment(n) => case_of(n),
+        Line::Digits(n, _) | Line::Comment(n) => case_of(n),
         Line::Bad => Case::Bad,
     }
 }

@@ -2,13 +2,10 @@
 -- rule refuses. Rules and numbers from document 01, "Requests". Assumes nothing: these are definitions.
 use Rattle.std.specs.Prelude.{ℕ, ◌+◌, ◌*◌, ◌-◌, List, [], ◌∷◌, length, get_or}
 use Rattle.wire.specs.Parts.{part}
-use Rattle.wire.specs.Refusals.{number}
-use Rattle.wire.specs.Answers.{Answer, done, refused, and_then, under, over, other, judged}
+use Rattle.wire.specs.Answers.{Answer, done, and_then, under, over, other, judged}
 use Rattle.epath_check.specs.Paths.{check_path}
 use Rattle.connection.specs.Limits.{max_path, max_record}
 use Rattle.message_read.specs.declared.MessageRequest.{MessageRequest}
-use Rattle.message_read.specs.declared.MessageRead.{MessageRead}
-use Rattle.message_read.specs.declared.MessageRead.TheVariants.{Found as FoundMessage, Refused as NoMessage}
 
 -- ---- what requests share
 
@@ -48,9 +45,3 @@ unfoldable pub read_message : List ℕ → Answer MessageRequest
 read_message s =
     judged (over (length s) max_record 3 ∷ [])
     (and_then (path_bytes s 1) (λ len. and_then (path_at s 2 len) (λ n. done (message_at s len))))
-
--- ---- what the functions answer
-
-abbrev pub paper_message : MessageRead → Answer MessageRequest
-paper_message (FoundMessage m) = done m
-paper_message (NoMessage e) = refused (number e)

@@ -8,7 +8,6 @@ mod route; // route.rt: what requests share, the path behind a size byte
 
 pub use message::read_message;
 pub use route::{padded_route_at, route_at};
-use wire::Refusal;
 
 #[derive(Clone, Copy)]
 pub struct MessageRequest {
@@ -17,10 +16,4 @@ pub struct MessageRequest {
     pub path_len: usize,
     pub data_start: usize,
     pub data_len: usize,
-}
-
-#[derive(Clone, Copy)]
-pub enum MessageRead {
-    Found(MessageRequest),
-    Refused(Refusal),
 }

@@ -1,12 +1,12 @@
 // The message request: service, path size, path, data.
 ghost use Rattle.std.specs.Prelude.{◌≡◌, ◌+◌, ◌≤◌, length};
+ghost use Rattle.wire.specs.Answers.{paper};
 ghost use Rattle.connection.specs.Limits.{max_path};
-ghost use Rattle.message_read.specs.Reads.{message_at, paper_message, read_message};
+ghost use Rattle.message_read.specs.Reads.{message_at, read_message};
 
+use crate::MessageRequest;
 use crate::route::{path_at, path_size};
-use crate::{MessageRead, MessageRequest};
-use wire::{Counted, Refusal};
-use wire_read::byte_at;
+use wire::Refusal;
 
 // The message whose path has len bytes.
 fn message_at(s: &[u8], len: usize) -> MessageRequest
@@ -15,7 +15,7 @@ fn message_at(s: &[u8], len: usize) -> MessageRequest
 {
     let data_start = 2 + len;
     MessageRequest {
-        service_code: byte_at(s, 0),
+        service_code: s[0],
         path_start: 2,
         path_len: len,
         data_start,
@@ -24,20 +24,14 @@ fn message_at(s: &[u8], len: usize) -> MessageRequest
 }
 
 // Reads a message; what follows the path is data.
-pub fn read_message(s: &[u8]) -> MessageRead
-    ensures { paper_message result ≡ read_message s.now }
+#[tactic(auto, using(crate::proofs::ReadLaws::message_laws))]
+pub fn read_message(s: &[u8]) -> Result<MessageRequest, Refusal>
+    ensures { paper result ≡ read_message s.now }
 {
     if connection::MAX_RECORD < s.len() {
-        return MessageRead::Refused(Refusal::Limit);
+        return Err(Refusal::Limit);
     }
-    match path_size(s, 1) {
-        Counted::Refused(e) => MessageRead::Refused(e),
-        Counted::Count(len) => match path_at(s, 2, len) {
-            Counted::Refused(e) => MessageRead::Refused(e),
-            Counted::Count(_) => {
-                let m = message_at(s, len);
-                MessageRead::Found(m)
-            }
-        },
-    }
+    let len = path_size(s, 1)?;
+    path_at(s, 2, len)?;
+    Ok(message_at(s, len))
 }

@@ -3,11 +3,12 @@
 -- dump". Assumes nothing: these are definitions.
 use Rattle.std.specs.Prelude.{ℕ, zero, suc, ◌+◌, ◌*◌, ◌-◌, ◌≡◌, List, [], ◌∷◌, ◌++◌, length, eqb}
 use Rattle.std.proofs.lemmas.List.Edits.{sets}
+use Rattle.std.specs.Prelude.{Result}
+use Rattle.wire.specs.declared.Refusal.{Refusal}
 use Rattle.wire.specs.Choice.{pick, same_bytes}
 use Rattle.wire.specs.Parts.{part}
 use Rattle.wire.specs.Folds.{joined}
-use Rattle.wire.specs.Answers.{Answer, done, refused, and_then, under, judged, paper_count, written}
-use Rattle.wire.specs.declared.Counted.{Counted}
+use Rattle.wire.specs.Answers.{Answer, done, refused, and_then, under, judged, paper, written}
 use Rattle.epath_sizes.specs.Segments.{class, instance, encode}
 use Rattle.message_read.specs.declared.MessageRequest.{MessageRequest}
 use Rattle.message_read.specs.Reads.{read_message}
@@ -137,6 +138,6 @@ abbrev pub ends_at : ℕ → Answer (List Row) → Answer ℕ
 ends_at at (done rs) = done (at + length rs)
 ends_at at (refused k) = refused k
 
-pub record Walked (w : Answer (List Row)) (at : ℕ) (r : Counted) (l l' : List ℕ) : Type 0 where
-  pub says : paper_count r ≡ ends_at at w
+pub record Walked (w : Answer (List Row)) (at : ℕ) (r : Result ℕ Refusal) (l l' : List ℕ) : Type 0 where
+  pub says : paper r ≡ ends_at at w
   pub holds : (rs : List Row) → w ≡ done rs → l' ≡ sets l (row_size * at) (joined row_values rs)

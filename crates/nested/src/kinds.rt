@@ -1,11 +1,10 @@
 // What a message opens, by its service and its path.
-ghost use Rattle.std.specs.Prelude.{◌≡◌};
-ghost use Rattle.wire.specs.Choice.{same_bytes};
+ghost use Rattle.std.specs.Prelude.{◌≡◌, ◌↔◌, IsTrue};
 ghost use Rattle.nested.specs.Nested.{path_to, kind_of, opens_as};
 
 use epath_sizes::{CLASS, INSTANCE};
 use message_read::MessageRequest;
-use wire_read::{byte_at, part_of};
+use wire_read::part_of;
 
 // Multiple Service Packet, of the Message Router.
 const MULTIPLE_SERVICE: u8 = 0x0A;
@@ -25,44 +24,23 @@ pub enum Kind {
 }
 
 // Whether a path is just this class, instance 1.
+#[tactic(auto, using(crate::proofs::KindLaws::path_laws))]
 fn is_path_to(path: &[u8], class: u8) -> bool
-    ensures { result ≡ same_bytes path.now (path_to class) }
+    ensures { IsTrue result ↔ (path.now ≡ path_to class) }
 {
-    if path.len() != 4 {
-        return false;
-    }
-    if byte_at(path, 0) != CLASS {
-        return false;
-    }
-    if byte_at(path, 1) != class {
-        return false;
-    }
-    if byte_at(path, 2) != INSTANCE {
-        return false;
-    }
-    if byte_at(path, 3) != 1 {
-        return false;
-    }
-    true
+    path == [CLASS, class, INSTANCE, 1].as_slice()
 }
 
 // What a message with this service and path opens.
+#[tactic(auto, using(crate::proofs::KindLaws::kind_laws))]
 fn kind_of(service: u8, path: &[u8]) -> Kind
     ensures { result ≡ kind_of service path.now }
 {
-    if service == MULTIPLE_SERVICE {
-        if is_path_to(path, MESSAGE_ROUTER) {
-            return Kind::Packet;
-        }
-        return Kind::Plain;
+    match service {
+        MULTIPLE_SERVICE if is_path_to(path, MESSAGE_ROUTER) => Kind::Packet,
+        UNCONNECTED_SEND if is_path_to(path, CONNECTION_MANAGER) => Kind::Send,
+        _ => Kind::Plain,
     }
-    if service == UNCONNECTED_SEND {
-        if is_path_to(path, CONNECTION_MANAGER) {
-            return Kind::Send;
-        }
-        return Kind::Plain;
-    }
-    Kind::Plain
 }
 
 // What a message that was read from s opens.

@@ -10,6 +10,7 @@ use message_read::MessageRequest;
 fn put_number(rows: &mut [u16], at: usize, v: u16)
     ensures { rows.new ≡ set rows.old at v }
 {
+    // not by get_mut: std says nothing of what a slice holds after it
     if at < rows.len() {
         rows[at] = v;
     }

@@ -1,139 +1,107 @@
 // Nested reading at its limits: the longest packet with the most messages that fit, one byte more, and lent rows and lent text of every kind of room.
 #![tactic(auto)]
 
-mod rows; // rows.rt: a run of numbers, filled and counted
+mod rows; // rows.rt: a run of numbers, counted
 
-use wire::{Counted, Wrote};
+use rows::Row;
+use std::io;
+use wire::Refusal;
 
 const LONGEST: usize = 65535;
 
 // Items of two bytes, with an offset of two each, behind six bytes of message and a count of two.
 const MOST_ITEMS: usize = 16381;
 
-fn named(word: &[u8], n: usize) {
-    io::write_all(1, word);
-    io::print_decimal(1, n as u64);
-}
+// What lent numbers and lent text hold before, so that what is not stored shows.
+const BLANK: u16 = 0xA5A5;
 
-// The offset and the bytes of item i of n, each `0E 00`: service 0E to no path, with no data.
-fn put_item(out: &mut [u8], n: usize, i: usize) {
-    if MOST_ITEMS < n {
-        return;
-    }
-    if n < i {
-        return;
-    }
-    let start = 2 + 2 * n + 2 * i;
-    wire_write::put_u16(out, 8 + 2 * i, (start % 65536) as u16);
-    wire_write::put_byte(out, 6 + start, 0x0E);
-}
+const BLANK_BYTE: u8 = 0xA5;
 
-// A packet of n items over zeros; what is lent past them is the last one's data.
-fn put_packet(out: &mut [u8], n: usize) {
+// Document 01's example.
+const EXAMPLE: [u8; 28] = [
+    0x0A, 2, 0x20, 2, 0x24, 1, 2, 0, 6, 0, 14, 0, 14, 3, 0x20, 1, 0x24, 1, 0x30, 7, 14, 3, 0x20, 1,
+    0x24, 1, 0x30, 6,
+];
+
+// A packet of the most items over zeros, each `0E 00`: service 0E to no path, with no data; what is lent past them is the last one's data.
+fn put_packet(out: &mut [u8]) {
     wire_write::put_bytes(out, 0, &[0x0A, 2, 0x20, 2, 0x24, 1]);
-    wire_write::put_u16(out, 6, (n % 65536) as u16);
-    for i in 0..n {
-        put_item(out, n, i);
+    wire_write::put_u16(out, 6, MOST_ITEMS as u16);
+    for i in 0..MOST_ITEMS {
+        let start = 2 + 2 * MOST_ITEMS + 2 * i;
+        wire_write::put_u16(out, 8 + 2 * i, (start % 65536) as u16);
+        wire_write::put_byte(out, 6 + start, 0x0E);
     }
 }
 
-fn counted(c: Counted) {
-    match c {
-        Counted::Count(n) => named(b"messages ", n),
-        Counted::Refused(e) => named(b"refused ", wire::refusal_number(e) as usize),
+// What was answered, with a word for an answer that is no refusal.
+fn tell(rt: &impl Print, word: &str, answer: Result<usize, Refusal>) -> io::Result<()> {
+    match answer {
+        Ok(n) => print!(rt; "{word} {n}"),
+        Err(e) => print!(rt; "refused {}", wire::refusal_number(e)),
     }
-}
-
-fn wrote(w: Wrote) {
-    match w {
-        Wrote::Size(n) => named(b"bytes ", n),
-        Wrote::Refused(e) => named(b"refused ", wire::refusal_number(e) as usize),
-    }
-}
-
-// What became of a run.
-fn tell(run: &[u16]) {
-    named(b", as they stood ", rows::blanks(run));
-    named(b" of ", run.len());
-    named(b", rows 1 0E 0 0: ", rows::small(run));
-    rows::show(b", the first row ", run, 0);
-    io::write_all(1, b"\n");
 }
 
 // Reads s with so much room for its rows.
-fn ask(s: &[u8], run: &mut [u16], room: usize) {
-    rows::fill(run);
-    if room <= run.len() {
-        counted(nested::read_nested(s, &mut run[0..room]));
+fn read(rt: &impl Print, s: &[u8], run: &mut [u16], room: usize) -> io::Result<()> {
+    run.fill(BLANK);
+    print!(rt; "of {} bytes, room for {room} numbers: ", s.len())?;
+    if let Some(lent) = run.get_mut(..room) {
+        tell(rt, "messages", nested::read_nested(s, lent))?;
     }
-}
-
-fn read(s: &[u8], run: &mut [u16], room: usize) {
-    named(b"of ", s.len());
-    named(b" bytes, room for ", room);
-    io::write_all(1, b" numbers: ");
-    ask(s, run, room);
-    tell(run);
+    let blanks = run.iter().filter(|n| **n == BLANK).count();
+    print!(rt; ", as they stood {blanks} of {}", run.len())?;
+    println!(rt;
+        ", rows 1 0E 0 0: {}, the first row {}",
+        rows::small(run),
+        Row::at(run, 0)
+    )
 }
 
 // The same of its text.
-fn write(s: &[u8], text: &mut [u8], room: usize) {
-    rows::fill_bytes(text);
-    named(b"of ", s.len());
-    named(b" bytes, room for ", room);
-    io::write_all(1, b" bytes of text: ");
-    if text.len() < room {
-        return;
+fn write(rt: &impl Print, s: &[u8], text: &mut [u8], room: usize) -> io::Result<()> {
+    text.fill(BLANK_BYTE);
+    print!(rt; "of {} bytes, room for {room} bytes of text: ", s.len())?;
+    if let Some(lent) = text.get_mut(..room) {
+        tell(rt, "bytes", dump_text::write_dump(s, lent))?;
     }
-    wrote(dump_text::write_dump(s, &mut text[0..room]));
-    named(b", as they stood ", rows::blank_bytes(text));
-    named(b" of ", text.len());
-    io::write_all(1, b"\n");
+    let blanks = text.iter().filter(|b| **b == BLANK_BYTE).count();
+    println!(rt; ", as they stood {blanks} of {}", text.len())
 }
 
-// Document 01's example.
-fn example() -> [u8; 28] {
-    [
-        0x0A, 2, 0x20, 2, 0x24, 1, 2, 0, 6, 0, 14, 0, 14, 3, 0x20, 1, 0x24, 1, 0x30, 7, 14, 3,
-        0x20, 1, 0x24, 1, 0x30, 6,
-    ]
-}
-
-fn few_rows(run: &mut [u16]) {
-    let s = example();
-    read(&s, run, 0);
-    read(&s, run, 11);
-    read(&s, run, 12);
-    read(&s, run, 13);
-}
-
-fn few_lines(text: &mut [u8]) {
-    let s = example();
-    write(&s, text, 0);
-    write(&s, text, 27);
-    write(&s, text, 28);
-    write(&s, text, 29);
+// The example, with room for fewer numbers and for less text than it has, for as many, and for more.
+fn few(rt: &impl Print, run: &mut [u16], text: &mut [u8]) -> io::Result<()> {
+    for room in [0, 11, 12, 13] {
+        read(rt, &EXAMPLE, run, room)?;
+    }
+    for room in [0, 27, 28, 29] {
+        write(rt, &EXAMPLE, text, room)?;
+    }
+    Ok(())
 }
 
 // The longest packet, and one byte more.
-fn longest(run: &mut [u16], text: &mut [u8]) {
-    let mut s = [0u8; LONGEST + 1];
-    put_packet(&mut s, MOST_ITEMS);
-    let n = wire_read::part_of(&s, 0, LONGEST);
-    read(n, run, 65527);
-    read(n, run, 65528);
-    rows::show(b"its last row ", run, 65524);
-    io::write_all(1, b"\n");
-    write(n, text, 147441);
-    write(n, text, 147442);
-    read(&s, run, 65536);
-    write(&s, text, 10);
+fn longest(rt: &impl Print, run: &mut [u16], text: &mut [u8]) -> io::Result<()> {
+    let mut s = [0; LONGEST + 1];
+    put_packet(&mut s);
+    let n = s.get(..LONGEST).unwrap_or_default();
+    read(rt, n, run, 65527)?;
+    read(rt, n, run, 65528)?;
+    println!(rt; "its last row {}", Row::at(run, 65524))?;
+    write(rt, n, text, 147441)?;
+    write(rt, n, text, 147442)?;
+    read(rt, &s, run, 65536)?;
+    write(rt, &s, text, 10)
 }
 
-fn main() {
-    let mut run = [0u16; 65536];
-    let mut text = [0u8; 200000];
-    few_rows(&mut run);
-    few_lines(&mut text);
-    longest(&mut run, &mut text);
+fn run(rt: &impl Print) -> io::Result<()> {
+    let mut run = [0; 65536];
+    let mut text = [0; 200000];
+    few(rt, &mut run, &mut text)?;
+    longest(rt, &mut run, &mut text)
+}
+
+// The status tells of no output that can't be written.
+fn main(rt: HostRuntime) {
+    let _ = run(&rt);
 }

@@ -1,14 +1,14 @@
 -- Each public function takes every argument, and its contract leaves one answer and one content of what is lent.
 -- Assumes nothing.
 use Rattle.exact.specs.Exact.{Exact, exact, says, same}
-use Rattle.wire.proofs.Answers.{size_one}
+use Rattle.wire.proofs.Answers.{answer_one}
 use Rattle.open_encode.specs.contracts.open.write_forward_open
 use Rattle.open_encode.specs.contracts.over.write_forward_open_over
 
 pub write_forward_open_exact : Exact write_forward_open.ended (λ _ _. write_forward_open.clauses)
 write_forward_open_exact = exact (λ w κs a. (tt, λ m. tt)) (λ w κs a g z e. search says) (λ t.
-    (size_one t.z t.z' (same t.said.0 t.said'.0), λ i. (tt, (tt, (tt, (same t.said.1 t.said'.1 i, tt))))))
+    (answer_one t.z t.z' (same t.said.0 t.said'.0), λ i. (tt, (tt, (tt, (same t.said.1 t.said'.1 i, tt))))))
 
 pub write_forward_open_over_exact : Exact write_forward_open_over.ended (λ _ _. write_forward_open_over.clauses)
 write_forward_open_over_exact = exact (λ w κs a. (tt, λ m. tt)) (λ w κs a g z e. search says) (λ t.
-    (size_one t.z t.z' (same t.said.0 t.said'.0), λ i. (tt, (tt, (same t.said.1 t.said'.1 i, tt)))))
+    (answer_one t.z t.z' (same t.said.0 t.said'.0), λ i. (tt, (tt, (same t.said.1 t.said'.1 i, tt)))))

@@ -8,6 +8,8 @@ use lib.ListN.{length, length-append}
 use lib.Seq.{sets}
 use mir.Val.{Fits}
 use mir.Syntax.{w16}
+use Rattle.std.specs.Prelude.{Result, Ok, Err, IsOk}
+use Rattle.wire.specs.Answers.{paper}
 use Rattle.wire.specs.Numbers.{low_first}
 use Rattle.wire.specs.Answers.{done}
 use Rattle.wire.specs.Records.{Field, byte, num, bytes_of, laid}
@@ -21,12 +23,10 @@ use Rattle.epath_sizes.specs.Lists.{segs_of}
 use Rattle.epath_sizes.specs.declared.Path.{Path}
 use Rattle.connection.specs.Limits.{size_limit}
 use Rattle.connection_words.proofs.FieldLaws.{flags_most}
-use Rattle.connection_words.specs.Fields.{unit, flags_of, word_of, parameter_word, paper_word, class_trigger}
+use Rattle.connection_words.specs.Fields.{unit, flags_of, word_of, parameter_word, class_trigger}
 use Rattle.connection_words.specs.Requests.{triad, parameter_width, direction_fields, open_ids, open_head, open_rest, open_bytes}
 use Rattle.connection.specs.declared.ConnectionParameters.{ConnectionParameters}
 use Rattle.connection.specs.declared.OpenOptions.{OpenOptions}
-use Rattle.connection_words.specs.declared.Word.{Word}
-use Rattle.connection_words.specs.declared.Word.TheVariants.{Bits, Refused as NoWord}
 use Rattle.route.specs.Routes.{Ready, Routed}
 use Rattle.open_sizes.specs.Sizes.{open_base}
 use Rattle.open_sizes.proofs.SizeLaws.{word_small_size, open_front}
@@ -43,13 +43,17 @@ pub open_head_lem : (o : OpenOptions) (old a0 a1 a2 : List ℕ)
 open_head_lem o old a0 a1 a2 e0 e1 e2 = e2 ∙ rw (e1, e0)
 
 -- a word of parameters
-module _ (large : Bool) (q : ConnectionParameters) (good : parameter_word large q ≡ done (word_of large q)) (r : Word) (is : paper_word r ≡ parameter_word large q) where
-  pub word_never : (e : Refusal) → r ≡ NoWord e → (old : List ℕ) (at : ℕ) → old ≡ sets old at (low_first (parameter_width large) (word_of large q))
-  word_never e h old at = never (sym (ap paper_word h) ∙ is ∙ good)
+module _ (large : Bool) (q : ConnectionParameters) (good : parameter_word large q ≡ done (word_of large q)) (r : Result ℕ Refusal) (is : paper r ≡ parameter_word large q) where
+  pub word_made : IsOk r
+  word_made = go r (is ∙ good)
+    where
+      go : (r : Result ℕ Refusal) → paper r ≡ done (word_of large q) → IsOk r
+      go (Ok w) h = refl
+      go (Err e) h = never h
 
-  module _ (w : ℕ) (h : r ≡ Bits w) where
+  module _ (w : ℕ) (h : r ≡ Ok w) where
     value : w ≡ word_of large q
-    value = let d : done w ≡ done (word_of large q) = sym (ap paper_word h) ∙ is ∙ good in cc
+    value = let d : done w ≡ done (word_of large q) = sym (ap paper h) ∙ is ∙ good in cc
 
     pub word_large : large ≡ true → (old new : List ℕ) (at : ℕ) → new ≡ sets old at (low_first 4 w) → new ≡ sets old at (low_first (parameter_width large) (word_of large q))
     word_large l old new at e = e ∙ rw (value, l)
@@ -119,4 +123,4 @@ module _ (pool : List ℕ) (p : Path) (o : OpenOptions) (base : ℕ) (is : base 
   open_put old n a b c t e f =
       open_laid o base is (encode (segs_of pool p)) old a b c t.stored e (f ∙ ap (λ (k : ℕ). sets b 22 (laid (open_rest o (k / 2)))) t.size)
 
-pub ruleset open_laws = (open_ids_lem, open_head_lem, word_never, word_large, word_small, word_cast, direction_put, open_rest_lem, open_at, open_put)
+pub ruleset open_laws = (open_ids_lem, open_head_lem, word_made, word_large, word_small, word_cast, direction_put, open_rest_lem, open_at, open_put)

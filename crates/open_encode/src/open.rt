@@ -2,7 +2,7 @@
 ghost use Rattle.std.specs.Prelude.{◌≡◌, ◌≤◌, length};
 ghost use Rattle.std.proofs.lemmas.List.Edits.{sets};
 ghost use Rattle.wire.specs.Numbers.{low_first};
-ghost use Rattle.wire.specs.Answers.{paper_size, done, with_room, written};
+ghost use Rattle.wire.specs.Answers.{paper, done, with_room, written};
 ghost use Rattle.wire.specs.Records.{laid};
 ghost use Rattle.connection_words.specs.Fields.{word_of, parameter_word};
 ghost use Rattle.epath_sizes.specs.Segments.{encode};
@@ -13,48 +13,26 @@ ghost use Rattle.open_encode.specs.Words.{GoodWords};
 ghost use Rattle.route.specs.Routes.{Ready};
 
 use connection::{ConnectionParameters, OpenOptions};
-use connection_words::{Word, encode_parameters};
+use connection_words::{encode_parameters, parameter_width};
 use epath_encode::write_path;
 use epath_sizes::Path;
-use open_sizes::forward_open_size;
+use open_sizes::{forward_open_size, open_base};
 use transport_words::transport_class_trigger;
 use triads::put_triad;
-use wire::{Refusal, Wrote};
+use wire::Refusal;
 use wire_write::{put_bytes, put_u16, put_u32};
 
-fn parameter_width(large: bool) -> usize
-    ensures { (result ≡ parameter_width large) × (result ≤ 4) }
-{
-    if large {
-        return 4;
-    }
-    2
-}
-
-// How many bytes stand before the path.
-pub(crate) fn open_base(large: bool) -> usize
-    ensures { (result ≡ open_base large) × (result ≤ 40) }
-{
-    if large {
-        return 40;
-    }
-    36
-}
-
 // Stores the word of parameters that were judged.
+#[tactic(auto, using(crate::proofs::WriteLaws::open_laws))]
 fn put_parameters(large: bool, q: ConnectionParameters, out: &mut [u8], at: usize)
     requires { parameter_word large q ≡ done (word_of large q) }
     ensures { out.new ≡ sets out.old at (low_first (parameter_width large) (word_of large q)) }
 {
-    match encode_parameters(large, q) {
-        Word::Refused(_) => {}
-        Word::Bits(word) => {
-            if large {
-                put_u32(out, at, word);
-                return;
-            }
-            put_u16(out, at, word as u16);
-        }
+    let word = encode_parameters(large, q).unwrap();
+    if large {
+        put_u32(out, at, word);
+    } else {
+        put_u16(out, at, word as u16);
     }
 }
 
@@ -97,7 +75,8 @@ pub(crate) fn put_open_head(o: OpenOptions, out: &mut [u8])
     put_bytes(out, 18, &[o.timeout_multiplier, 0, 0, 0]);
 }
 
-// The rest of what stands before the path.
+// The rest of what stands before the path. That the parameters were judged is asked by three private functions, each of the record that it is given: a
+// type for it would be made and taken apart between them.
 pub(crate) fn put_open_rest(o: OpenOptions, words: u8, out: &mut [u8])
     requires { GoodWords o }
     ensures { out.new ≡ sets out.old 22 (laid (open_rest o words)) }
@@ -109,33 +88,33 @@ pub(crate) fn put_open_rest(o: OpenOptions, words: u8, out: &mut [u8])
 }
 
 // A Forward Open that was judged.
+#[tactic(auto, using(route::proofs::RouteLaws::put_laws, crate::proofs::WriteLaws::open_laws))]
 fn put_open(o: OpenOptions, p: Path, pool: &[u8], out: &mut [u8])
     requires { GoodWords o × Ready pool.now p (open_base o.large_open) out.old }
     ensures { out.new ≡ sets out.old 0 (open_bytes o (encode (segs_of pool.now p))) }
 {
     let at = open_base(o.large_open);
-    match write_path(p, pool, &mut out[at..]) {
-        Wrote::Refused(_) => {}
-        Wrote::Size(n) => {
-            put_open_head(o, out);
-            put_open_rest(o, (n / 2) as u8, out);
-        }
-    }
+    let n = write_path(p, pool, &mut out[at..]).unwrap();
+    put_open_head(o, out);
+    put_open_rest(o, (n / 2) as u8, out);
 }
 
 // Writes a Forward Open at the front of out, or changes nothing.
-pub fn write_forward_open(o: OpenOptions, p: Path, pool: &[u8], out: &mut [u8]) -> Wrote
-    ensures answer { paper_size result ≡ with_room (open_size pool.now p o) (length out.old) }
+#[tactic(auto, using(wire::proofs::Answers::writer_laws, open_sizes::proofs::SizeLaws::ready_laws, open_sizes::proofs::SizeLaws::length_laws))]
+pub fn write_forward_open(
+    o: OpenOptions,
+    p: Path,
+    pool: &[u8],
+    out: &mut [u8],
+) -> Result<usize, Refusal>
+    ensures answer { paper result ≡ with_room (open_size pool.now p o) (length out.old) }
     ensures bytes { out.new ≡ written (with_room (open_size pool.now p o) (length out.old)) (open_bytes o (encode (segs_of pool.now p))) out.old }
 {
-    match forward_open_size(o, p, pool) {
-        Wrote::Refused(e) => Wrote::Refused(e),
-        Wrote::Size(size) => {
-            if out.len() < size {
-                return Wrote::Refused(Refusal::Room);
-            }
-            put_open(o, p, pool, out);
-            Wrote::Size(size)
-        }
+    // size, room, store, as every writer: one for all would take the store as a closure with its need, for no line less
+    let size = forward_open_size(o, p, pool)?;
+    if out.len() < size {
+        return Err(Refusal::Room);
     }
+    put_open(o, p, pool, out);
+    Ok(size)
 }

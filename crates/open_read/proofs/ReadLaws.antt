@@ -6,30 +6,21 @@ use mathlib.Core.Bool.{Bool, true, false}
 use native.Mathlib.Omega.{arith}
 use lib.ListN.{length, get_or, drop}
 use lib.Seq.{get_or-drop, drop-drop}
+use Rattle.std.specs.Prelude.{Result, Ok, Err}
 use Rattle.wire.specs.Numbers.{value_of}
 use Rattle.wire.specs.Refusals.{number}
-use Rattle.wire.specs.Answers.{Answer, done, refused, paper_count}
+use Rattle.wire.specs.Answers.{Answer, done, refused, paper}
 use Rattle.wire.specs.declared.Refusal.{Refusal}
-use Rattle.wire.specs.declared.Counted.{Counted}
-use Rattle.wire.specs.declared.Counted.TheVariants.{Count, Refused as NotCounted}
-use Rattle.wire.proofs.Rules.{rules, then_stops, then_goes}
-use Rattle.connection_words.specs.Fields.{Transport, transport, read_parameters, read_transport, paper_parameters, paper_transport}
+use Rattle.wire.proofs.Rules.{rules}
+use Rattle.connection_words.specs.Fields.{Transport, transport, read_parameters, read_transport}
 use Rattle.connection_words.specs.Requests.{parameter_width}
 use Rattle.connection.specs.declared.ConnectionParameters.{ConnectionParameters}
-use Rattle.connection.specs.declared.OpenOptions.{OpenOptions}
 use Rattle.connection.specs.declared.Direction.{Direction}
 use Rattle.connection.specs.declared.TriggerType.{TriggerType}
 use Rattle.connection.specs.declared.TransportClass.{TransportClass}
-use Rattle.connection_words.specs.declared.ParametersRead.{ParametersRead}
-use Rattle.connection_words.specs.declared.ParametersRead.TheVariants.{Found as FoundParameters, Refused as NoParameters}
-use Rattle.connection_words.specs.declared.TransportRead.{TransportRead}
-use Rattle.connection_words.specs.declared.TransportRead.TheVariants.{Found as FoundTransport, Refused as NoTransport}
-use Rattle.request_first.specs.declared.Judged.{Judged}
-use Rattle.request_first.specs.declared.Judged.TheVariants.{Kept, Refused as Broken}
-use Rattle.request_first.specs.Firsts.{first_rules, verdict, paper_judged}
+use Rattle.request_first.specs.Firsts.{first_rules, verdict}
 use Rattle.request_first.proofs.FirstLaws.{kept_stops, kept_goes}
-use Rattle.message_read.specs.Reads.{route_at}
-use Rattle.open_read.specs.Reads.{Opened, opened, open_rules, second_place, transport_place, parameters_at, transport_at, options_at, open_end, open_behind, read_open}
+use Rattle.open_read.specs.Reads.{Opened, open_rules, parameters_at, transport_at, options_at, open_behind, read_open}
 
 -- ---- Forward Open
 module _ (s : List ℕ) where
@@ -102,58 +93,20 @@ module _ (s : List ℕ) where
   options_are large x y d t k w a b c e f g h i j l o p q r u v m n z a1 a2 = rw (p, q, r, u, v, m, n, z, a1, a2, o)
 
   module _ (large : Bool) where
-    module _ (a b : ConnectionParameters) (w : ℕ) (wide : w ≡ parameter_width large) (r : TransportRead) (is : paper_transport r ≡ transport_at s (30 + 2 * w)) where
-      told : (t : Answer Transport) → paper_transport r ≡ t → transport_at s (transport_place large) ≡ t
-      told t h = rw (← wide) (sym is ∙ h)
-
-      pub end_transport : (e : Refusal) → r ≡ NoTransport e → refused (number e) ≡ open_end large s a b
-      unfolding open_end
-      end_transport e h = then_stops _ _ (number e) (told _ (ap paper_transport h))
-
-      module _ (d : Direction) (t : TriggerType) (k : TransportClass) (h : r ≡ FoundTransport d t k) (q : Counted) (of : paper_count q ≡ route_at s (30 + 2 * w + 1)) where
-        routed : paper_count q ≡ route_at s (transport_place large + 1)
-        routed = rw (← wide) of
-
-        pub end_route : (e : Refusal) → q ≡ NotCounted e → refused (number e) ≡ open_end large s a b
-        unfolding open_end
-        end_route e f = then_goes _ _ _ _ (told _ (ap paper_transport h)) (then_stops _ _ (number e) (sym routed ∙ ap paper_count f))
-
-        pub end_found : (len : ℕ) (o : OpenOptions) → q ≡ Count len → o ≡ options_at large s a b (transport d t k) → done (opened o (30 + 2 * w + 2) len) ≡ open_end large s a b
-        unfolding open_end
-        end_found len o f e = then_goes _ _ _ _ (told _ (ap paper_transport h)) (then_goes _ _ len _ (sym routed ∙ ap paper_count f) (rw (e, wide)))
-
-    module _ (r : ParametersRead) (is : paper_parameters r ≡ parameters_at large s 26) where
-      pub behind_first : (e : Refusal) → r ≡ NoParameters e → refused (number e) ≡ open_behind large s
-      unfolding open_behind
-      behind_first e h = then_stops _ _ (number e) (sym is ∙ ap paper_parameters h)
-
-      module _ (a : ConnectionParameters) (h : r ≡ FoundParameters a) (w : ℕ) (wide : w ≡ parameter_width large)
-          (q : ParametersRead) (of : paper_parameters q ≡ parameters_at large s (26 + w + 4)) where
-        here : (x : Answer ConnectionParameters) → paper_parameters q ≡ x → parameters_at large s (second_place large + 4) ≡ x
-        here x e = rw (← wide) (sym of ∙ e)
-
-        pub behind_second : (e : Refusal) → q ≡ NoParameters e → refused (number e) ≡ open_behind large s
-        unfolding open_behind
-        behind_second e f = then_goes _ _ a _ (sym is ∙ ap paper_parameters h) (then_stops _ _ (number e) (here _ (ap paper_parameters f)))
-
-        pub behind_both : (b : ConnectionParameters) (z : Answer Opened) → q ≡ FoundParameters b → z ≡ open_end large s a b → z ≡ open_behind large s
-        unfolding open_behind
-        behind_both b z f e = then_goes _ _ a z (sym is ∙ ap paper_parameters h) (then_goes _ _ b z (here _ (ap paper_parameters f)) e)
-
-    module _ (r : Judged) (is : paper_judged r ≡ verdict (first_rules s)) where
-      pub open_first : (e : Refusal) → r ≡ Broken e → refused (number e) ≡ read_open large s
+    module _ (r : Result (Unit {0}) Refusal) (is : paper r ≡ verdict (first_rules s)) where
+      pub open_first : (e : Refusal) → r ≡ Err e → refused (number e) ≡ read_open large s
       unfolding read_open
       open_first = kept_stops _ _ r is
 
-      module _ (h : r ≡ Kept) (q : Judged) (of : paper_judged q ≡ verdict (open_rules s)) where
-        pub open_head_lem : (e : Refusal) → q ≡ Broken e → refused (number e) ≡ read_open large s
+      module _ (h : r ≡ (Ok tt)) (q : Result (Unit {0}) Refusal) (of : paper q ≡ verdict (open_rules s)) where
+        pub open_head_lem : (e : Refusal) → q ≡ Err e → refused (number e) ≡ read_open large s
         unfolding read_open
         open_head_lem e f = kept_goes _ _ r is _ h (kept_stops _ _ q of e f)
 
-        pub open_found : (z : Answer Opened) → q ≡ Kept → z ≡ open_behind large s → z ≡ read_open large s
+        pub open_found : (z : Answer Opened) → q ≡ (Ok tt) → z ≡ open_behind large s → z ≡ read_open large s
         unfolding read_open
         open_found z f e = kept_goes _ _ r is z h (kept_goes _ _ q of z f e)
 
 pub ruleset field_laws = (word_large, word_small, parameters_short, parameters_are, transport_short, transport_is, head_short, head_form, head_kept)
 
-pub ruleset open_laws = (end_transport, end_route, end_found, behind_first, behind_second, behind_both, open_first, open_head_lem, open_found)
+pub ruleset open_laws = (open_first, open_head_lem, open_found)

@@ -1,7 +1,9 @@
 -- The reader of Forward Open and Large Forward Open (CIP Volume 1, 3-5.5.2), executable: fields in wire order, the first broken rule refuses. Rules
 -- and numbers from document 01, "Requests". Assumes nothing: these are definitions.
 use Rattle.std.specs.Prelude.{ℕ, ◌+◌, ◌*◌, List, [], ◌∷◌, Bool, length, get_or, drop}
+use Rattle.std.specs.Prelude.{Result, Ok, Err}
 use Rattle.wire.specs.Numbers.{value_of}
+use Rattle.wire.specs.declared.Refusal.{Refusal}
 use Rattle.wire.specs.Refusals.{number}
 use Rattle.wire.specs.Answers.{Answer, done, refused, and_then, Rule, under, other, judged}
 use Rattle.connection_words.specs.Fields.{Transport, transport, read_parameters, read_transport}
@@ -11,7 +13,6 @@ use Rattle.message_read.specs.Reads.{route_at}
 use Rattle.connection.specs.declared.ConnectionParameters.{ConnectionParameters}
 use Rattle.connection.specs.declared.OpenOptions.{OpenOptions}
 use Rattle.open_read.specs.declared.OpenRead.{OpenRead}
-use Rattle.open_read.specs.declared.OpenRead.TheVariants.{Found as FoundOpen, Refused as NoOpen}
 
 -- ---- Forward Open (3-5.5.2): 22 bytes, the reserved three their last, each direction's packet interval and parameters, class and trigger, path
 
@@ -70,6 +71,6 @@ read_open large s = judged (first_rules s) (judged (open_rules s) (open_behind l
 
 -- ---- what the function answers
 
-abbrev pub paper_open : OpenRead → Answer Opened
-paper_open (FoundOpen o start len) = done (opened o start len)
-paper_open (NoOpen e) = refused (number e)
+abbrev pub paper_open : Result OpenRead Refusal → Answer Opened
+paper_open (Ok r) = done (opened r.options r.path_start r.path_len)
+paper_open (Err e) = refused (number e)

@@ -4,34 +4,27 @@
 #![tactic(auto)]
 
 ghost use Rattle.std.specs.Prelude.{◌≡◌, ◌≤◌, drop};
+ghost use Rattle.wire.specs.Answers.{paper};
 ghost use Rattle.wire.specs.Numbers.{value_of};
-ghost use Rattle.connection_words.specs.Fields.{transport, paper_parameters, paper_transport};
+ghost use Rattle.connection_words.specs.Fields.{transport, paper_transport};
 ghost use Rattle.connection_words.specs.Requests.{parameter_width};
-ghost use Rattle.request_first.specs.Firsts.{verdict, paper_judged};
+ghost use Rattle.request_first.specs.Firsts.{verdict};
 ghost use Rattle.open_read.specs.Reads.{open_rules, parameters_at, transport_at, options_at, paper_open, open_end, open_behind, read_open};
 
-use connection::{ConnectionParameters, Direction, OpenOptions, TransportClass, TriggerType};
-use connection_words::{ParametersRead, TransportRead, decode_parameters};
+use connection::{ConnectionParameters, OpenOptions};
+use connection_words::{TransportRead, decode_parameters, parameter_width};
 use message_read::route_at;
-use request_first::{Judged, first_byte};
+use request_first::first_byte;
 use transport_words::transport_of;
-use wire::{Counted, Refusal};
+use wire::Refusal;
 use wire_read::{byte_at, u16_at, u32_at};
 
 // The record, and start and length of its path.
 #[derive(Clone, Copy)]
-pub enum OpenRead {
-    Found(OpenOptions, usize, usize),
-    Refused(Refusal),
-}
-
-fn parameter_width(large: bool) -> usize
-    ensures { (result ≡ parameter_width large) × (result ≤ 4) }
-{
-    if large {
-        return 4;
-    }
-    2
+pub struct OpenRead {
+    pub options: OpenOptions,
+    pub path_start: usize,
+    pub path_len: usize,
 }
 
 // The parameter word at a place.
@@ -39,50 +32,51 @@ fn word_at(large: bool, s: &[u8], at: usize) -> u32
     ensures { result ≡ value_of (parameter_width large) (drop at s.now) }
 {
     if large {
-        return u32_at(s, at);
+        u32_at(s, at)
+    } else {
+        u32::from(u16_at(s, at))
     }
-    let w = u16_at(s, at);
-    w as u32
 }
 
 // The connection parameters at a place.
-fn parameters_at(large: bool, s: &[u8], at: usize) -> ParametersRead
+#[tactic(auto, using(crate::proofs::ReadLaws::field_laws))]
+fn parameters_at(large: bool, s: &[u8], at: usize) -> Result<ConnectionParameters, Refusal>
     requires { at ≤ 1000 }
-    ensures { paper_parameters result ≡ parameters_at large s.now at }
+    ensures { paper result ≡ parameters_at large s.now at }
 {
-    let width = parameter_width(large);
-    if s.len() < at + width {
-        return ParametersRead::Refused(Refusal::Short);
+    if s.len() < at + parameter_width(large) {
+        return Err(Refusal::Short);
     }
     let word = word_at(large, s, at);
     decode_parameters(large, word)
 }
 
 // Class and trigger at a place.
-fn transport_at(s: &[u8], at: usize) -> TransportRead
+#[tactic(auto, using(crate::proofs::ReadLaws::field_laws))]
+fn transport_at(s: &[u8], at: usize) -> Result<TransportRead, Refusal>
     requires { at ≤ 1000 }
     ensures { paper_transport result ≡ transport_at s.now at }
 {
     if s.len() < at + 1 {
-        return TransportRead::Refused(Refusal::Short);
+        return Err(Refusal::Short);
     }
-    let b = byte_at(s, at);
-    transport_of(b)
+    transport_of(byte_at(s, at))
 }
 
 // The first 22 bytes, which end with three reserved ones.
-fn judge_head(s: &[u8]) -> Judged
-    ensures { paper_judged result ≡ verdict (open_rules s.now) }
+#[tactic(auto, using(crate::proofs::ReadLaws::field_laws))]
+fn judge_head(s: &[u8]) -> Result<(), Refusal>
+    ensures { paper result ≡ verdict (open_rules s.now) }
 {
     if s.len() < 22 {
-        return Judged::Refused(Refusal::Short);
+        return Err(Refusal::Short);
     }
     let low = u16_at(s, 19);
     let high = byte_at(s, 21);
     if low as u32 + 65536 * (high as u32) != 0 {
-        return Judged::Refused(Refusal::Form);
+        return Err(Refusal::Form);
     }
-    Judged::Kept
+    Ok(())
 }
 
 // The record, when what has rules was read.
@@ -91,11 +85,9 @@ fn options_at(
     s: &[u8],
     a: ConnectionParameters,
     b: ConnectionParameters,
-    direction: Direction,
-    trigger: TriggerType,
-    class: TransportClass,
+    t: TransportRead,
 ) -> OpenOptions
-    ensures { result ≡ options_at large s.now a b (transport direction trigger class) }
+    ensures { result ≡ options_at large s.now a b (transport t.direction t.trigger t.class) }
 {
     let width = parameter_width(large);
     OpenOptions {
@@ -111,56 +103,50 @@ fn options_at(
         timeout_multiplier: byte_at(s, 18),
         o_t_params: a,
         t_o_params: b,
-        transport_direction: direction,
-        transport_class: class,
-        transport_trigger: trigger,
+        transport_direction: t.direction,
+        transport_class: t.class,
+        transport_trigger: t.trigger,
         large_open: large,
     }
 }
 
 // Class and trigger, and the path, behind both directions' parameters.
-fn open_end(large: bool, s: &[u8], a: ConnectionParameters, b: ConnectionParameters) -> OpenRead
+#[tactic(auto, unfolding(crate::specs::Reads::open_end))]
+fn open_end(
+    large: bool,
+    s: &[u8],
+    a: ConnectionParameters,
+    b: ConnectionParameters,
+) -> Result<OpenRead, Refusal>
     ensures { paper_open result ≡ open_end large s.now a b }
 {
-    let width = parameter_width(large);
-    let at = 30 + 2 * width;
-    match transport_at(s, at) {
-        TransportRead::Refused(e) => OpenRead::Refused(e),
-        TransportRead::Found(direction, trigger, class) => match route_at(s, at + 1) {
-            Counted::Refused(e) => OpenRead::Refused(e),
-            Counted::Count(len) => {
-                let o = options_at(large, s, a, b, direction, trigger, class);
-                OpenRead::Found(o, at + 2, len)
-            }
-        },
-    }
+    let at = 30 + 2 * parameter_width(large);
+    let t = transport_at(s, at)?;
+    let path_len = route_at(s, at + 1)?;
+    Ok(OpenRead {
+        options: options_at(large, s, a, b, t),
+        path_start: at + 2,
+        path_len,
+    })
 }
 
 // What follows the first 22 bytes.
-fn open_behind(large: bool, s: &[u8]) -> OpenRead
+#[tactic(auto, unfolding(crate::specs::Reads::open_behind))]
+fn open_behind(large: bool, s: &[u8]) -> Result<OpenRead, Refusal>
     ensures { paper_open result ≡ open_behind large s.now }
 {
-    match parameters_at(large, s, 26) {
-        ParametersRead::Refused(e) => OpenRead::Refused(e),
-        ParametersRead::Found(a) => {
-            let width = parameter_width(large);
-            match parameters_at(large, s, 26 + width + 4) {
-                ParametersRead::Refused(e) => OpenRead::Refused(e),
-                ParametersRead::Found(b) => open_end(large, s, a, b),
-            }
-        }
-    }
+    let a = parameters_at(large, s, 26)?;
+    let width = parameter_width(large);
+    let b = parameters_at(large, s, 26 + width + 4)?;
+    open_end(large, s, a, b)
 }
 
 // Reads a Forward Open of the form that the caller names.
-pub fn read_forward_open(large: bool, s: &[u8]) -> OpenRead
+#[tactic(auto, using(crate::proofs::ReadLaws::open_laws))]
+pub fn read_forward_open(large: bool, s: &[u8]) -> Result<OpenRead, Refusal>
     ensures { paper_open result ≡ read_open large s.now }
 {
-    match first_byte(s) {
-        Judged::Refused(e) => OpenRead::Refused(e),
-        Judged::Kept => match judge_head(s) {
-            Judged::Refused(e) => OpenRead::Refused(e),
-            Judged::Kept => open_behind(large, s),
-        },
-    }
+    first_byte(s)?;
+    judge_head(s)?;
+    open_behind(large, s)
 }

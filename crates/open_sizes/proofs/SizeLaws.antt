@@ -7,13 +7,11 @@ use native.Mathlib.Omega.{arith}
 use lib.ListN.{length}
 use mir.Val.{Fits}
 use mir.Syntax.{w64}
-use Rattle.wire.specs.Refusals.{number}
-use Rattle.wire.specs.Answers.{Answer, done, refused, paper_size, and_then}
+use Rattle.std.specs.Prelude.{Result, Ok}
+use Rattle.wire.specs.Answers.{Answer, done, refused, paper, and_then}
 use Rattle.wire.specs.Records.{laid}
 use Rattle.wire.specs.declared.Refusal.{Refusal}
-use Rattle.wire.specs.declared.Wrote.{Wrote}
-use Rattle.wire.specs.declared.Wrote.TheVariants.{Size, Refused}
-use Rattle.wire.proofs.Rules.{done_same, all_were, then_stops, then_goes, Went, then_were}
+use Rattle.wire.proofs.Rules.{never, done_same, all_were, Went, then_were}
 use Rattle.wire.proofs.Records.{laid_length, laid_size}
 use Rattle.connection_words.proofs.Lengths.{open_length}
 use Rattle.epath_sizes.specs.Segments.{encode}
@@ -23,52 +21,59 @@ use Rattle.epath_sizes.proofs.PathLaws.{path_sized}
 use Rattle.connection.specs.Limits.{max_path, size_limit}
 use Rattle.connection.specs.declared.ConnectionParameters.{ConnectionParameters}
 use Rattle.connection.specs.declared.OpenOptions.{OpenOptions}
-use Rattle.connection_words.specs.Fields.{word_of, parameter_word, paper_word}
+use Rattle.connection_words.specs.Fields.{word_of, parameter_word}
 use Rattle.connection_words.specs.Requests.{parameter_width, open_head, open_rest, open_bytes}
-use Rattle.connection_words.specs.declared.Word.{Word}
-use Rattle.connection_words.specs.declared.Word.TheVariants.{Bits, Refused as NoWord}
 use Rattle.route.specs.Routes.{route_size, Ready}
 use Rattle.route.proofs.RouteLaws.{route_sized, Left, left}
-use Rattle.open_sizes.specs.Sizes.{open_base, open_size}
+use Rattle.open_sizes.specs.Sizes.{open_base, front_size, open_size}
 
--- ---- forwards: what the code's ends answer
-module _ (pool : List ℕ) (p : Path) (r : Wrote) (is : paper_size r ≡ route_size pool p) where
-  module _ (e : Refusal) (h : r ≡ Refused e) where
-    pub open_stops : (o : OpenOptions) → refused (number e) ≡ open_size pool p o
-    unfolding open_size
-    open_stops o = then_stops _ _ (number e) (sym is ∙ ap paper_size h)
+-- ---- what stands before the path, and the whole
+module _ (o : OpenOptions) where
+  -- behind a path of n bytes
+  abbrev pub behind : ℕ → Answer ℕ
+  behind n =
+      and_then (parameter_word o.large_open o.o_t_params) (λ _.
+      and_then (parameter_word o.large_open o.t_o_params) (λ _.
+      done (open_base o.large_open + n)))
 
-  module _ (n : ℕ) (h : r ≡ Size n) where
-    short : n ≤ max_path
-    short = (route_sized pool p n (sym is ∙ ap paper_size h)).short
+  pub front_stops : (n k : ℕ) → refused k ≡ front_size o → refused k ≡ behind n
+  unfolding front_size
+  front_stops n k h = go (parameter_word o.large_open o.o_t_params) (parameter_word o.large_open o.t_o_params) h
+    where
+      go : (x y : Answer ℕ) → refused k ≡ and_then x (λ _. and_then y (λ _. done (open_base o.large_open)))
+          → refused k ≡ and_then x (λ _. and_then y (λ _. done (open_base o.large_open + n)))
+      go (refused j) y h = h
+      go (done i) (refused j) h = h
+      go (done i) (done j) h = never h
 
-    pub open_fits : (b : ℕ) → b ≤ 40 → Fits w64 (b + n)
-    open_fits b g = record { fits = omega (arith, short) }
+  pub front_goes : (n b : ℕ) → done b ≡ front_size o → done (b + n) ≡ behind n
+  unfolding front_size
+  front_goes n b h = go (parameter_word o.large_open o.o_t_params) (parameter_word o.large_open o.t_o_params) h
+    where
+      go : (x y : Answer ℕ) → done b ≡ and_then x (λ _. and_then y (λ _. done (open_base o.large_open)))
+          → done (b + n) ≡ and_then x (λ _. and_then y (λ _. done (open_base o.large_open + n)))
+      go (refused j) y h = never (sym h)
+      go (done i) (refused j) h = never (sym h)
+      go (done i) (done j) h = ap (λ (k : ℕ). done (k + n)) (done_same h)
 
-    module _ (o : OpenOptions) (v : Word) (one : paper_word v ≡ parameter_word o.large_open o.o_t_params) where
-      after_first : Answer ℕ
-      after_first = and_then (parameter_word o.large_open o.t_o_params) (λ _. done (open_base o.large_open + n))
+  pub front_fits : (n b : ℕ) → done b ≡ front_size o → n ≤ max_path → Fits w64 (b + n)
+  unfolding front_size
+  front_fits n b h l = go (parameter_word o.large_open o.o_t_params) (parameter_word o.large_open o.t_o_params) h
+    where
+      most : (large : Bool) → open_base large ≤ 40
+      most false = omega arith
+      most true = omega arith
 
-      opened : {z : Answer ℕ} → z ≡ and_then (parameter_word o.large_open o.o_t_params) (λ _. after_first) → z ≡ open_size pool p o
-      unfolding open_size after_first
-      opened e = then_goes _ _ n _ (sym is ∙ ap paper_size h) e
+      go : (x y : Answer ℕ) → done b ≡ and_then x (λ _. and_then y (λ _. done (open_base o.large_open))) → Fits w64 (b + n)
+      go (refused j) y h = never (sym h)
+      go (done i) (refused j) h = never (sym h)
+      go (done i) (done j) h = record { fits = omega (arith, done_same h, most o.large_open) }
 
-      pub open_first : (e : Refusal) → v ≡ NoWord e → refused (number e) ≡ open_size pool p o
-      open_first e g = opened (then_stops _ _ (number e) (sym one ∙ ap paper_word g))
+pub ruleset front_laws = (front_stops, front_goes, front_fits)
 
-      module _ (a : ℕ) (f : v ≡ Bits a) (w : Word) (two : paper_word w ≡ parameter_word o.large_open o.t_o_params) where
-        second : {z : Answer ℕ} → z ≡ after_first → z ≡ open_size pool p o
-        second {z} e = opened (then_goes _ _ a z (sym one ∙ ap paper_word f) e)
-
-        pub open_second : (e : Refusal) → w ≡ NoWord e → refused (number e) ≡ open_size pool p o
-        unfolding after_first
-        open_second e g = second (then_stops _ _ (number e) (sym two ∙ ap paper_word g))
-
-        pub open_is : (b base : ℕ) → w ≡ Bits b → base ≡ open_base o.large_open → done (base + n) ≡ open_size pool p o
-        unfolding after_first
-        open_is b base g q = second (then_goes _ _ b (done (base + n)) (sym two ∙ ap paper_word g) (rw q))
-
-pub ruleset size_laws = (open_stops, open_fits, open_first, open_second, open_is)
+-- ---- a path that was sized is short
+pub open_short : (pool : List ℕ) (p : Path) (n : ℕ) → done n ≡ route_size pool p → n ≤ max_path
+open_short pool p n h = (route_sized pool p n (sym h)).short
 
 -- ---- backwards
 
@@ -81,14 +86,14 @@ unfolding parameter_word
 word_small_size large q w h = (all_were _ _ w h).0.0
 
 -- a request that was sized and has its room: its path is ready to be written
-module _ (pool : List ℕ) (p : Path) (r : Wrote) (size : ℕ) (h : r ≡ Size size) where
-  module _ (o : OpenOptions) (is : paper_size r ≡ open_size pool p o) where
+module _ (pool : List ℕ) (p : Path) (r : Result ℕ Refusal) (size : ℕ) (h : r ≡ Ok size) where
+  module _ (o : OpenOptions) (is : paper r ≡ open_size pool p o) where
     abbrev two : ℕ → Answer ℕ
     two k = and_then (parameter_word o.large_open o.t_o_params) (λ _. done (open_base o.large_open + k))
 
     opening : Left pool p (λ k. and_then (parameter_word o.large_open o.o_t_params) (λ _. two k)) size
     unfolding open_size
-    opening = left pool p (λ k. and_then (parameter_word o.large_open o.o_t_params) (λ _. two k)) size (sym is ∙ ap paper_size h)
+    opening = left pool p (λ k. and_then (parameter_word o.large_open o.o_t_params) (λ _. two k)) size (sym is ∙ ap paper h)
 
     one_went : Went (parameter_word o.large_open o.o_t_params) (λ _. two opening.n) size
     one_went = then_were _ _ size opening.then
@@ -118,11 +123,11 @@ base_widths true = refl
 pub open_front : (o : OpenOptions) (w : ℕ) → length (laid (open_head o) ++ laid (open_rest o w)) ≡ open_base o.large_open
 open_front o w = omega (arith, laid_size (open_head o) (laid (open_rest o w)), laid_length (open_rest o w), base_widths o.large_open)
 
-module _ (pool : List ℕ) (p : Path) (r : Wrote) (size : ℕ) (h : r ≡ Size size) where
+module _ (pool : List ℕ) (p : Path) (r : Result ℕ Refusal) (size : ℕ) (h : r ≡ Ok size) where
   abbrev path : List ℕ
   path = encode (segs_of pool p)
 
-  pub open_sized : (o : OpenOptions) → paper_size r ≡ open_size pool p o → size ≡ length (open_bytes o path)
+  pub open_sized : (o : OpenOptions) → paper r ≡ open_size pool p o → size ≡ length (open_bytes o path)
   open_sized o is =
       let w = opening pool p r size h o is in
       omega (arith, done_same (two_went pool p r size h o is).then, (path_sized pool p w.n w.is).size, open_length o path, base_widths o.large_open)

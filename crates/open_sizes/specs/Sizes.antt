@@ -11,6 +11,13 @@ abbrev pub open_base : Bool → ℕ
 open_base false = 36
 open_base true = 40
 
+-- before the path, where both words can hold their parameters
+unfoldable pub front_size : OpenOptions → Answer ℕ
+front_size o =
+    and_then (parameter_word o.large_open o.o_t_params) (λ _.
+    and_then (parameter_word o.large_open o.t_o_params) (λ _.
+    done (open_base o.large_open)))
+
 -- a small connection size over its limit is the parameters' own refusal.
 unfoldable pub open_size : List ℕ → Path → OpenOptions → Answer ℕ
 open_size pool p o =

@@ -2,37 +2,38 @@
 #![tactic(auto)]
 
 ghost use Rattle.std.specs.Prelude.{◌≡◌, ◌≤◌};
-ghost use Rattle.wire.specs.Answers.{paper_size};
-ghost use Rattle.open_sizes.specs.Sizes.{open_base, open_size};
+ghost use Rattle.wire.specs.Answers.{paper};
+ghost use Rattle.open_sizes.specs.Sizes.{open_base, front_size, open_size};
 
 use connection::OpenOptions;
-use connection_words::{Word, encode_parameters};
+use connection_words::encode_parameters;
 use epath_sizes::Path;
 use route::route_size;
-use wire::Wrote;
+use wire::Refusal;
 
 // How many bytes stand before the path.
-fn open_base(large: bool) -> usize
+pub fn open_base(large: bool) -> usize
     ensures { (result ≡ open_base large) × (result ≤ 40) }
 {
-    if large {
-        return 40;
-    }
-    36
+    if large { 40 } else { 36 }
+}
+
+// How many bytes stand before the path of a Forward Open whose parameters fit their words.
+#[tactic(auto, unfolding(crate::specs::Sizes::front_size))]
+pub fn front_size(o: OpenOptions) -> Result<usize, Refusal>
+    ensures { paper result ≡ front_size o }
+{
+    encode_parameters(o.large_open, o.o_t_params)?;
+    encode_parameters(o.large_open, o.t_o_params)?;
+    Ok(open_base(o.large_open))
 }
 
 // How many bytes a Forward Open takes.
-pub fn forward_open_size(o: OpenOptions, p: Path, pool: &[u8]) -> Wrote
-    ensures { paper_size result ≡ open_size pool.now p o }
+#[tactic(auto, using(crate::proofs::SizeLaws::front_laws), unfolding(crate::specs::Sizes::open_size))]
+pub fn forward_open_size(o: OpenOptions, p: Path, pool: &[u8]) -> Result<usize, Refusal>
+    ensures { paper result ≡ open_size pool.now p o }
 {
-    match route_size(p, pool) {
-        Wrote::Refused(e) => Wrote::Refused(e),
-        Wrote::Size(n) => match encode_parameters(o.large_open, o.o_t_params) {
-            Word::Refused(e) => Wrote::Refused(e),
-            Word::Bits(_) => match encode_parameters(o.large_open, o.t_o_params) {
-                Word::Refused(e) => Wrote::Refused(e),
-                Word::Bits(_) => Wrote::Size(open_base(o.large_open) + n),
-            },
-        },
-    }
+    let n = route_size(p, pool)?;
+    let front = front_size(o)?;
+    Ok(front + n)
 }

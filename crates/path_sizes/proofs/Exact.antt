@@ -2,8 +2,8 @@
 -- Assumes nothing.
 use mathlib.Core.Path.{refl}
 use Rattle.exact.specs.Exact.{Exact, exact, says, same}
-use Rattle.wire.proofs.Answers.{size_one}
+use Rattle.wire.proofs.Answers.{answer_one}
 use Rattle.path_sizes.specs.contracts.path_size
 
 pub path_size_exact : Exact path_size.ended (λ _ _. path_size.clauses)
-path_size_exact = exact (λ w κs a. (tt, λ m. tt)) (λ w κs a g z e. search says) (λ t. (size_one t.z t.z' (same t.said t.said'), refl))
+path_size_exact = exact (λ w κs a. (tt, λ m. tt)) (λ w κs a g z e. search says) (λ t. (answer_one t.z t.z' (same t.said t.said'), refl))

@@ -2,34 +2,23 @@
 #![tactic(auto)]
 
 ghost use Rattle.std.specs.Prelude.{◌≡◌};
-ghost use Rattle.wire.specs.Answers.{paper_size};
+ghost use Rattle.wire.specs.Answers.{paper};
 ghost use Rattle.epath_sizes.specs.Sizes.{path_size};
 
 use epath_sizes::{Path, segment_size};
-use wire::{Refusal, Wrote};
+use wire::Refusal;
 
 // A list's first refusal, or how many bytes it takes.
-pub fn path_size(p: Path, pool: &[u8]) -> Wrote
-    ensures { paper_size result ≡ path_size pool.now p }
+#[tactic(auto, using(epath_sizes::proofs::PathLaws::summing_laws))]
+pub fn path_size(p: Path, pool: &[u8]) -> Result<usize, Refusal>
+    ensures { paper result ≡ path_size pool.now p }
 {
-    let count = p.count;
-    if epath_sizes::MAX_SEGMENTS < count {
-        return Wrote::Refused(Refusal::Limit);
+    if epath_sizes::MAX_SEGMENTS < p.count {
+        return Err(Refusal::Limit);
     }
-    let mut total: usize = 0;
-    let mut i: usize = 0;
-    while i < count {
-        let slot = p.slots[i];
-        let segment = slot.segment;
-        match segment_size(segment, pool) {
-            Wrote::Size(n) => {
-                total += n;
-            }
-            Wrote::Refused(e) => {
-                return Wrote::Refused(e);
-            }
-        }
-        i += 1;
+    let mut total = 0;
+    for slot in &p.slots[..p.count] {
+        total += segment_size(slot.segment, pool)?;
     }
-    Wrote::Size(total)
+    Ok(total)
 }

@@ -4,27 +4,26 @@ use mathlib.Core.Path.{◌≡◌, refl, sym, ap, ◌∙◌}
 use mathlib.Core.List.{List}
 use native.Mathlib.Omega.{arith}
 use lib.ListN.{length, get_or, drop}
+use Rattle.std.specs.Prelude.{Option, Some, None}
 use Rattle.wire.specs.Numbers.{value_of}
 use Rattle.wire.specs.Answers.{done, refused}
 use Rattle.wire.proofs.Rules.{rules, all_were}
 use Rattle.wire.proofs.Choice.{pick_here, pick_past}
 use Rattle.connection.specs.Limits.{max_record}
 use Rattle.reply_header.specs.Headers.{most_words, data_from, status_at, reply_at, read_header}
-use Rattle.statuses.specs.declared.ExtendedStatus.{ExtendedStatus}
-use Rattle.statuses.specs.declared.ExtendedStatus.TheVariants.{Absent, Word}
 use Rattle.statuses.specs.declared.Status.{Status}
 use Rattle.reply_header.specs.declared.MessageReply.{MessageReply}
 
 module _ (s : List ℕ) where
   module _ (a w : ℕ) (is : a ≡ get_or s 2 0) (counted : w ≡ get_or s 3 0) where
-    told : (x : ExtendedStatus) → x ≡ (status_at s).extended → record { general = a; extended = x } ≡ status_at s
-    told x e = ap (λ (k : ℕ). record { general = k; extended = x }) is ∙ ap (λ (y : ExtendedStatus). record { general = get_or s 2 0; extended = y }) e
+    told : (x : Option ℕ) → x ≡ (status_at s).extended → record { general = a; extended = x } ≡ status_at s
+    told x e = ap (λ (k : ℕ). record { general = k; extended = x }) is ∙ ap (λ (y : Option ℕ). record { general = get_or s 2 0; extended = y }) e
 
-    pub status_bare : w ≡ 0 → record { general = a; extended = Absent } ≡ status_at s
-    status_bare h = told Absent (pick_here (get_or s 3 0) 0 Absent (Word (value_of 2 (drop 4 s))) Absent (sym counted ∙ h) refl)
+    pub status_bare : w ≡ 0 → record { general = a; extended = None } ≡ status_at s
+    status_bare h = told None (pick_here (get_or s 3 0) 0 None (Some (value_of 2 (drop 4 s))) None (sym counted ∙ h) refl)
 
-    pub status_word : (v : ℕ) → (w ≡ 0 → ⊥) → v ≡ value_of 2 (drop 4 s) → record { general = a; extended = Word v } ≡ status_at s
-    status_word v h f = told (Word v) (pick_past (get_or s 3 0) 0 Absent (Word (value_of 2 (drop 4 s))) (Word v) (λ g. h (counted ∙ g)) (ap Word f))
+    pub status_word : (v : ℕ) → (w ≡ 0 → ⊥) → v ≡ value_of 2 (drop 4 s) → record { general = a; extended = Some v } ≡ status_at s
+    status_word v h f = told (Some v) (pick_past (get_or s 3 0) 0 None (Some (value_of 2 (drop 4 s))) (Some v) (λ g. h (counted ∙ g)) (ap Some f))
 
   pub header_limit : max_record < length s → refused 3 ≡ read_header s
   unfolding read_header

@@ -1,16 +1,13 @@
 -- A reply's header, read. CIP Volume 1, 2-4.2 (message router response); rules and numbers from document 01, "Replies": service, a reserved byte,
 -- general status, word count s, 2s bytes, and then data. Its layout stands in statuses. Assumes nothing: these are definitions.
 use Rattle.std.specs.Prelude.{ℕ, ◌+◌, ◌*◌, ◌-◌, List, [], ◌∷◌, length, get_or, drop, eqb}
+use Rattle.std.specs.Prelude.{Some, None}
 use Rattle.wire.specs.Choice.{pick}
 use Rattle.wire.specs.Numbers.{value_of}
-use Rattle.wire.specs.Refusals.{number}
-use Rattle.wire.specs.Answers.{Answer, done, refused, Rule, under, over, judged}
+use Rattle.wire.specs.Answers.{Answer, done, Rule, under, over, judged}
 use Rattle.connection.specs.Limits.{max_record}
-use Rattle.statuses.specs.declared.ExtendedStatus.TheVariants.{Absent, Word}
 use Rattle.statuses.specs.declared.Status.{Status}
 use Rattle.reply_header.specs.declared.MessageReply.{MessageReply}
-use Rattle.reply_header.specs.declared.ReplyRead.{ReplyRead}
-use Rattle.reply_header.specs.declared.ReplyRead.TheVariants.{Found, Refused}
 
 -- words of extended status that are read
 abbrev pub most_words : ℕ
@@ -29,7 +26,7 @@ header_rules s =
     ∷ []
 
 abbrev pub status_at : List ℕ → Status
-status_at s = record { general = get_or s 2 0; extended = pick (eqb (get_or s 3 0) 0) Absent (Word (value_of 2 (drop 4 s))) }
+status_at s = record { general = get_or s 2 0; extended = pick (eqb (get_or s 3 0) 0) None (Some (value_of 2 (drop 4 s))) }
 
 abbrev pub reply_at : List ℕ → MessageReply
 reply_at s = record {
@@ -41,9 +38,3 @@ reply_at s = record {
 
 unfoldable pub read_header : List ℕ → Answer MessageReply
 read_header s = judged (header_rules s) (done (reply_at s))
-
--- ---- what the function answers
-
-abbrev pub paper_reply : ReplyRead → Answer MessageReply
-paper_reply (Found m) = done m
-paper_reply (Refused e) = refused (number e)

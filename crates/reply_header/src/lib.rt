@@ -3,9 +3,10 @@
 #![tactic(auto)]
 
 ghost use Rattle.std.specs.Prelude.{◌≡◌};
-ghost use Rattle.reply_header.specs.Headers.{status_at, read_header, paper_reply};
+ghost use Rattle.wire.specs.Answers.{paper};
+ghost use Rattle.reply_header.specs.Headers.{status_at, read_header};
 
-use statuses::{ExtendedStatus, Status};
+use statuses::Status;
 use wire::Refusal;
 use wire_read::{byte_at, u16_at};
 
@@ -21,57 +22,43 @@ pub struct MessageReply {
     pub data_len: usize,
 }
 
-#[derive(Clone, Copy)]
-pub enum ReplyRead {
-    Found(MessageReply),
-    Refused(Refusal),
-}
-
 // The status in a header that was judged.
 fn status_at(s: &[u8]) -> Status
     ensures { result ≡ status_at s.now }
 {
-    let general = byte_at(s, 2);
-    let words = byte_at(s, 3);
-    if words == 0 {
-        return Status {
-            general,
-            extended: ExtendedStatus::Absent,
-        };
-    }
-    let word = u16_at(s, 4);
     Status {
-        general,
-        extended: ExtendedStatus::Word(word),
+        general: byte_at(s, 2),
+        extended: match byte_at(s, 3) {
+            0 => None,
+            _ => Some(u16_at(s, 4)),
+        },
     }
 }
 
 // Reads a reply's header; what follows it is data.
-pub fn read_reply_header(s: &[u8]) -> ReplyRead
-    ensures { paper_reply result ≡ read_header s.now }
+#[tactic(auto, using(crate::proofs::HeaderLaws::header_laws))]
+pub fn read_reply_header(s: &[u8]) -> Result<MessageReply, Refusal>
+    ensures { paper result ≡ read_header s.now }
 {
     if connection::MAX_RECORD < s.len() {
-        return ReplyRead::Refused(Refusal::Limit);
+        return Err(Refusal::Limit);
     }
     if s.len() < 4 {
-        return ReplyRead::Refused(Refusal::Short);
+        return Err(Refusal::Short);
     }
     // in a usize: 128 words are 256 bytes
     let words = byte_at(s, 3);
     let data_start = 4 + 2 * (words as usize);
-    if data_start <= s.len() {
-        if MOST_WORDS < words {
-            return ReplyRead::Refused(Refusal::Words);
-        }
-        let data_len = s.len() - data_start;
-        let reply_service = byte_at(s, 0);
-        let status = status_at(s);
-        return ReplyRead::Found(MessageReply {
-            reply_service,
-            status,
-            data_start,
-            data_len,
-        });
+    if s.len() < data_start {
+        return Err(Refusal::Short);
     }
-    ReplyRead::Refused(Refusal::Short)
+    if MOST_WORDS < words {
+        return Err(Refusal::Words);
+    }
+    Ok(MessageReply {
+        reply_service: byte_at(s, 0),
+        status: status_at(s),
+        data_start,
+        data_len: s.len() - data_start,
+    })
 }

@@ -1,30 +1,20 @@
 -- The readers of Forward Open and Forward Close replies, executable: the header first, then fields in wire order; the first broken rule refuses. CIP
 -- Volume 1, 3-5.5.2 (Forward Open) and 3-5.5.3 (Forward Close); rules and numbers from document 01, "Replies". Assumes nothing: these are definitions.
 use Rattle.std.specs.Prelude.{ℕ, ◌+◌, ◌*◌, List, [], ◌∷◌, Bool, true, false, length, get_or, drop}
+use Rattle.std.specs.Prelude.{Option, Some, None}
 use Rattle.wire.specs.Choice.{pick}
 use Rattle.wire.specs.Numbers.{value_of}
-use Rattle.wire.specs.Refusals.{number}
-use Rattle.wire.specs.Answers.{Answer, done, refused, and_then, under, judged}
+use Rattle.wire.specs.Answers.{Answer, done, and_then, under, judged}
 use Rattle.connection.specs.declared.ForwardOpenSuccess.{ForwardOpenSuccess}
 use Rattle.connection.specs.declared.ForwardCloseSuccess.{ForwardCloseSuccess}
 use Rattle.connection.specs.declared.ForwardRequestFail.{ForwardRequestFail}
-use Rattle.connection.specs.declared.RemainingPathSize.{RemainingPathSize}
-use Rattle.connection.specs.declared.RemainingPathSize.TheVariants.{Absent, Words}
 use Rattle.statuses.specs.Statuses.{is_ok}
 use Rattle.reply_header.specs.Headers.{read_header}
 use Rattle.reply_header.specs.declared.MessageReply.{MessageReply}
-use Rattle.reply_read.specs.declared.OpenReplyRead.{OpenReplyRead}
-use Rattle.reply_read.specs.declared.OpenReplyRead.TheVariants.{Success as OpenSuccess, Failure as OpenFailure, Refused as NoOpenReply}
-use Rattle.reply_read.specs.declared.CloseReplyRead.{CloseReplyRead}
-use Rattle.reply_read.specs.declared.CloseReplyRead.TheVariants.{Success as CloseSuccess, Failure as CloseFailure, Refused as NoCloseReply}
-use Rattle.reply_read.specs.declared.failure.FailRead.{FailRead}
-use Rattle.reply_read.specs.declared.failure.FailRead.TheVariants.{Found, Refused as NoFail}
+use Rattle.reply_read.specs.declared.Reply.{Reply}
+use Rattle.reply_read.specs.declared.Reply.TheVariants.{Success as succeeded, Failure as failed}
 
--- ---- what a reply says: its header, and on success the record, then start and length of the application data; on failure the failure record
-
-pub data Reply (A : Type 0) : Type 0 where
-  succeeded : MessageReply → A → ℕ → ℕ → Reply A
-  failed : MessageReply → ForwardRequestFail → Reply A
+-- A `Reply` says its header, and on success the record, then start and length of the application data; on failure the failure record.
 
 -- ---- the end of both success records: size of the application data in words, a reserved byte, the data. How many bytes the data has, by the size
 -- at a place
@@ -37,9 +27,9 @@ abbrev pub fail_size : Bool → ℕ
 fail_size false = 8
 fail_size true = 9
 
-abbrev pub remaining_at : Bool → List ℕ → ℕ → RemainingPathSize
-remaining_at false s at = Absent
-remaining_at true s at = Words (get_or s (at + 8) 0)
+abbrev pub remaining_at : Bool → List ℕ → ℕ → Option ℕ
+remaining_at false s at = None
+remaining_at true s at = Some (get_or s (at + 8) 0)
 
 abbrev pub fail_at : Bool → List ℕ → ℕ → ForwardRequestFail
 fail_at routing s at = record {
@@ -95,19 +85,3 @@ close_success_at s at = record {
 
 abbrev pub read_close_reply : Bool → List ℕ → Answer (Reply ForwardCloseSuccess)
 read_close_reply = read_reply close_success_at 8
-
--- ---- what the functions answer
-
-abbrev pub paper_open_reply : OpenReplyRead → Answer (Reply ForwardOpenSuccess)
-paper_open_reply (OpenSuccess m o start len) = done (succeeded m o start len)
-paper_open_reply (OpenFailure m f) = done (failed m f)
-paper_open_reply (NoOpenReply e) = refused (number e)
-
-abbrev pub paper_close_reply : CloseReplyRead → Answer (Reply ForwardCloseSuccess)
-paper_close_reply (CloseSuccess m c start len) = done (succeeded m c start len)
-paper_close_reply (CloseFailure m f) = done (failed m f)
-paper_close_reply (NoCloseReply e) = refused (number e)
-
-abbrev pub paper_fail : FailRead → Answer ForwardRequestFail
-paper_fail (Found f) = done f
-paper_fail (NoFail e) = refused (number e)

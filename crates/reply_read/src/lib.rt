@@ -5,25 +5,16 @@
 mod close; // close.rt: the Forward Close reply
 mod failure; // failure.rt: what a failed Forward Open or Close carries
 mod open; // open.rt: the Forward Open reply
-mod record; // record.rt: what both records share
+mod record; // record.rt: either reply, by the record that tells of success
 
 pub use close::read_forward_close_reply;
-use connection::{ForwardCloseSuccess, ForwardOpenSuccess, ForwardRequestFail};
+use connection::ForwardRequestFail;
 pub use open::read_forward_open_reply;
 use reply_header::MessageReply;
-use wire::Refusal;
 
 // On success the record, and start and length of its application data.
 #[derive(Clone, Copy)]
-pub enum OpenReplyRead {
-    Success(MessageReply, ForwardOpenSuccess, usize, usize),
+pub enum Reply<T> {
+    Success(MessageReply, T, usize, usize),
     Failure(MessageReply, ForwardRequestFail),
-    Refused(Refusal),
-}
-
-#[derive(Clone, Copy)]
-pub enum CloseReplyRead {
-    Success(MessageReply, ForwardCloseSuccess, usize, usize),
-    Failure(MessageReply, ForwardRequestFail),
-    Refused(Refusal),
 }

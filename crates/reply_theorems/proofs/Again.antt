@@ -6,6 +6,7 @@ use mathlib.Core.List.{List, [], ◌++◌, append_assoc}
 use mathlib.Core.Bool.{Bool, true, false}
 use native.Mathlib.Omega.{arith}
 use lib.ListN.{length, get_or, drop}
+use Rattle.std.specs.Prelude.{Option, Some, None}
 use Rattle.wire.specs.Numbers.{value_of, Bytes}
 use Rattle.wire.specs.Parts.{part}
 use Rattle.wire.specs.Answers.{done}
@@ -20,14 +21,13 @@ use Rattle.connection.specs.declared.ForwardCloseSuccess.{ForwardCloseSuccess}
 use Rattle.connection.specs.declared.ForwardRequestFail.{ForwardRequestFail}
 use Rattle.statuses.specs.Statuses.{is_ok}
 use Rattle.statuses.specs.Layouts.{header_fields}
-use Rattle.statuses.specs.declared.ExtendedStatus.{ExtendedStatus}
-use Rattle.statuses.specs.declared.ExtendedStatus.TheVariants.{Absent, Word}
 use Rattle.reply_header.specs.Headers.{most_words, data_from, status_at, read_header}
 use Rattle.reply_header.specs.declared.MessageReply.{MessageReply}
 use Rattle.reply_header.proofs.HeaderLaws.{Header, header_was}
 use Rattle.success_encode.specs.Replies.{success, app_fields, open_success_fields, close_success_fields, open_reply_bytes, close_reply_bytes}
 use Rattle.failure_encode.specs.Failures.{failure_fields, failure_bytes}
-use Rattle.reply_read.specs.Reads.{succeeded, failed, app_data, fail_size, fail_at, read_fail, reply_data, read_reply, open_success_at, read_open_reply, close_success_at, read_close_reply}
+use Rattle.reply_read.specs.Reads.{app_data, fail_size, fail_at, read_fail, reply_data, read_reply, open_success_at, read_open_reply, close_success_at, read_close_reply}
+use Rattle.reply_read.specs.declared.Reply.TheVariants.{Success as succeeded, Failure as failed}
 
 -- ---- what an accepted success says of the input
 pub record SuccessWas {A : Type 0} (fields : List ℕ → ℕ → A) (size : ℕ) (s : List ℕ) (m : MessageReply) (x : A) (start len : ℕ) : Type 0 where
@@ -70,17 +70,17 @@ success_was {A} fields size routing s m x start len h =
 
 -- ---- a header without an extended word
 
-no_word : (s : List ℕ) → (status_at s).extended ≡ Absent → get_or s 3 0 ≡ 0
+no_word : (s : List ℕ) → (status_at s).extended ≡ None → get_or s 3 0 ≡ 0
 no_word s = go (get_or s 3 0) refl
   where
-    go : (n : ℕ) → get_or s 3 0 ≡ n → (status_at s).extended ≡ Absent → get_or s 3 0 ≡ 0
+    go : (n : ℕ) → get_or s 3 0 ≡ n → (status_at s).extended ≡ None → get_or s 3 0 ≡ 0
     go zero e h = e
     go (suc n) e h =
-        let v : ExtendedStatus = Word (value_of 2 (drop 4 s)) in
-        let g : v ≡ Absent = pick_past (get_or s 3 0) 0 Absent v v (λ z. omega arith) refl ∙ h in
+        let v : Option ℕ = Some (value_of 2 (drop 4 s)) in
+        let g : v ≡ None = pick_past (get_or s 3 0) 0 None v v (λ z. omega arith) refl ∙ h in
         absurd (let z : ◌≡◌ {A = ℕ} 0 1 = cc in omega arith)
 
-no_fault : (g : ℕ) (x : ExtendedStatus) → is_ok (record { general = g; extended = x }) ≡ true → g ≡ 0
+no_fault : (g : ℕ) (x : Option ℕ) → is_ok (record { general = g; extended = x }) ≡ true → g ≡ 0
 no_fault zero x h = refl
 no_fault (suc g) x h =
     let e : false ≡ true = pick_past (suc g) 0 true false false (λ z. omega arith) refl ∙ h in
@@ -88,7 +88,7 @@ no_fault (suc g) x h =
 
 -- status 0 with no extended word, and zero in the reserved bytes: the one behind the service, and the one before the application data
 pub record Plain (s : List ℕ) (m : MessageReply) (start : ℕ) : Type 0 where
-  pub bare : m.status.extended ≡ Absent
+  pub bare : m.status.extended ≡ None
   pub first : get_or s 1 0 ≡ 0
   pub second : get_or s (start - 1) 0 ≡ 0
 
@@ -191,12 +191,12 @@ header_again s b l few z = go (get_or s 3 0) refl
   where
     go : (n : ℕ) → get_or s 3 0 ≡ n → laid (header_fields (get_or s 0 0) (status_at s)) ++ drop (data_from s) s ≡ s
     go zero e =
-        sym (fields_were (header_fields 0 (record { general = 0; extended = Absent })) (header_fields (get_or s 0 0) (status_at s)) s (drop (data_from s) s) 0 (data_from s) b (omega arith) l (rw (e, z)) refl)
+        sym (fields_were (header_fields 0 (record { general = 0; extended = None })) (header_fields (get_or s 0 0) (status_at s)) s (drop (data_from s) s) 0 (data_from s) b (omega arith) l (rw (e, z)) refl)
     go (suc n) e =
-        let v : ExtendedStatus = Word (value_of 2 (drop 4 s)) in
+        let v : Option ℕ = Some (value_of 2 (drop 4 s)) in
         let o : get_or s 3 0 ≡ 1 = omega arith in
-        let w : (status_at s).extended ≡ v = sym (pick_past (get_or s 3 0) 0 Absent v v (λ q. omega arith) refl) in
-        sym (fields_were (header_fields 0 (record { general = 0; extended = Word 0 })) (header_fields (get_or s 0 0) (status_at s)) s (drop (data_from s) s) 0 (data_from s) b (omega arith) l (rw (w, o, z)) refl)
+        let w : (status_at s).extended ≡ v = sym (pick_past (get_or s 3 0) 0 None v v (λ q. omega arith) refl) in
+        sym (fields_were (header_fields 0 (record { general = 0; extended = Some 0 })) (header_fields (get_or s 0 0) (status_at s)) s (drop (data_from s) s) 0 (data_from s) b (omega arith) l (rw (w, o, z)) refl)
 
 fail_again : (routing : Bool) (s : List ℕ) (at : ℕ) → Bytes s → at + fail_size routing ≤ length s
     → laid (failure_fields (fail_at routing s at)) ++ drop (at + fail_size routing) s ≡ drop at s

@@ -5,6 +5,7 @@ use mathlib.Core.List.{List, [], ◌∷◌, ◌++◌}
 use native.Mathlib.Omega.{arith}
 use lib.ListN.{length, get_or, take, drop, length-append}
 use lib.Seq.{length-take-le}
+use Rattle.std.specs.Prelude.{Option, Some, None}
 use Rattle.wire.specs.Numbers.{value_of, low_first}
 use Rattle.wire.specs.Parts.{part}
 use Rattle.wire.specs.Answers.{done}
@@ -14,8 +15,6 @@ use Rattle.wire.proofs.Numbers.{value_low, value_two}
 use Rattle.wire.proofs.Stores.{part_last}
 use Rattle.connection.specs.Limits.{max_record}
 use Rattle.statuses.specs.Layouts.{header_fields}
-use Rattle.statuses.specs.declared.ExtendedStatus.{ExtendedStatus}
-use Rattle.statuses.specs.declared.ExtendedStatus.TheVariants.{Absent, Word}
 use Rattle.statuses.specs.declared.Status.{Status}
 use Rattle.reply_header.specs.Headers.{data_from, status_at, read_header}
 use Rattle.reply_header.specs.declared.MessageReply.{MessageReply}
@@ -28,23 +27,23 @@ headed service st n = record { reply_service = service; status = st; data_start 
 -- ---- read of written
 
 -- the extended word is one that two bytes hold
-abbrev pub WordFits : ExtendedStatus → Type 0
-WordFits Absent = Unit {0}
-WordFits (Word w) = w < 65536
+abbrev pub WordFits : Option ℕ → Type 0
+WordFits None = Unit {0}
+WordFits (Some w) = w < 65536
 
 pub header_read_of_written : (service : ℕ) (st : Status) (d : List ℕ) → WordFits st.extended → widths (header_fields service st) + length d ≤ max_record
     → read_header (laid (header_fields service st) ++ d) ≡ done (headed service st (length d))
 unfolding read_header
 header_read_of_written service st d h small = go st.general st.extended h small
   where
-    go : (g : ℕ) (x : ExtendedStatus) → WordFits x → widths (header_fields service (record { general = g; extended = x })) + length d ≤ max_record
+    go : (g : ℕ) (x : Option ℕ) → WordFits x → widths (header_fields service (record { general = g; extended = x })) + length d ≤ max_record
         → read_header (laid (header_fields service (record { general = g; extended = x })) ++ d)
         ≡ done (headed service (record { general = g; extended = x }) (length d))
-    go g Absent f l =
+    go g None f l =
         let s : List ℕ = service ∷ 0 ∷ g ∷ 0 ∷ d in
         let n : length s - 4 ≡ length d = omega arith in
         all_keep _ _ (omega arith, (omega arith, (omega arith, (omega arith, tt)))) ∙ rw n
-    go g (Word w) f l =
+    go g (Some w) f l =
         let s : List ℕ = service ∷ 0 ∷ g ∷ 1 ∷ (low_first 2 w ++ d) in
         let n : length s - 6 ≡ length d = omega arith in
         all_keep _ _ (omega arith, (omega arith, (omega arith, (omega arith, tt)))) ∙ rw (value_low 2 w d f, n)

@@ -6,6 +6,7 @@ use native.Mathlib.Nat.{zero-add}
 use mathlib.Core.Bool.{Bool, true, false}
 use native.Mathlib.Omega.{arith}
 use lib.ListN.{length, get_or, drop, length-append}
+use Rattle.std.specs.Prelude.{Option, Some, None}
 use Rattle.wire.specs.Numbers.{value_of}
 use Rattle.wire.specs.Parts.{part}
 use Rattle.wire.specs.Answers.{done, under}
@@ -19,8 +20,6 @@ use Rattle.connection.specs.Limits.{max_record, max_app_data}
 use Rattle.connection.specs.declared.ForwardOpenSuccess.{ForwardOpenSuccess}
 use Rattle.connection.specs.declared.ForwardCloseSuccess.{ForwardCloseSuccess}
 use Rattle.connection.specs.declared.ForwardRequestFail.{ForwardRequestFail}
-use Rattle.connection.specs.declared.RemainingPathSize.{RemainingPathSize}
-use Rattle.connection.specs.declared.RemainingPathSize.TheVariants.{Absent, Words}
 use Rattle.connection_words.specs.Requests.{triad}
 use Rattle.statuses.specs.Statuses.{is_ok}
 use Rattle.statuses.specs.Layouts.{header_fields}
@@ -29,7 +28,8 @@ use Rattle.reply_header.specs.Headers.{read_header}
 use Rattle.reply_header.specs.declared.MessageReply.{MessageReply}
 use Rattle.success_encode.specs.Replies.{success, app_fields, open_success_fields, close_success_fields, open_reply_bytes, close_reply_bytes}
 use Rattle.failure_encode.specs.Failures.{remaining_fields, failure_fields, failure_bytes}
-use Rattle.reply_read.specs.Reads.{succeeded, failed, app_data, fail_size, remaining_at, fail_at, read_fail, reply_data, read_reply, open_success_at, close_success_at}
+use Rattle.reply_read.specs.Reads.{app_data, fail_size, remaining_at, fail_at, read_fail, reply_data, read_reply, open_success_at, close_success_at}
+use Rattle.reply_read.specs.declared.Reply.TheVariants.{Success as succeeded, Failure as failed}
 use Rattle.reply_theorems.proofs.Headers.{headed, WordFits, header_read_of_written}
 
 -- ---- application data that a writer takes
@@ -116,22 +116,22 @@ close_reply_read_of_written routing service c app rest =
 
 -- ---- failure: read as it was written where the reader is told of a routing error exactly if the record has a remaining path size
 
-abbrev pub has_size : RemainingPathSize → Bool
-has_size Absent = false
-has_size (Words w) = true
+abbrev pub has_size : Option ℕ → Bool
+has_size None = false
+has_size (Some w) = true
 
 fail_wide : (f : ForwardRequestFail) → widths (failure_fields f) ≡ fail_size (has_size f.remaining_path_size)
 fail_wide f = go f.remaining_path_size
   where
-    go : (x : RemainingPathSize) → 2 + (2 + (4 + widths (remaining_fields x))) ≡ fail_size (has_size x)
-    go Absent = refl
-    go (Words w) = refl
+    go : (x : Option ℕ) → 2 + (2 + (4 + widths (remaining_fields x))) ≡ fail_size (has_size x)
+    go None = refl
+    go (Some w) = refl
 
 fail_back : (s rest : List ℕ) (at : ℕ) (f : ForwardRequestFail) → AllHold (failure_fields f) → drop at s ≡ laid (failure_fields f) ++ rest
     → fail_at (has_size f.remaining_path_size) s at ≡ f
 fail_back s rest at f = go f.connection_serial_number f.originator_vendor_id f.originator_serial_number f.remaining_path_size
   where
-    go : (a b c : ℕ) (x : RemainingPathSize) → AllHold (triad a b c ++ remaining_fields x) → drop at s ≡ laid (triad a b c ++ remaining_fields x) ++ rest
+    go : (a b c : ℕ) (x : Option ℕ) → AllHold (triad a b c ++ remaining_fields x) → drop at s ≡ laid (triad a b c ++ remaining_fields x) ++ rest
         → fail_at (has_size x) s at
         ≡ record { connection_serial_number = a; originator_vendor_id = b; originator_serial_number = c; remaining_path_size = x }
     go a b c x h p =
@@ -143,11 +143,11 @@ fail_back s rest at f = go f.connection_serial_number f.originator_vendor_id f.o
         let k : value_of 4 (drop (at + 4) s) ≡ c = ap (λ (q : ℕ). value_of 4 (drop q s)) n ∙ ap (field 2) e in
         rw (i, j, k, remaining x e)
       where
-        remaining : (y : RemainingPathSize) → fields_at (triad a b c ++ remaining_fields y) s at ≡ triad a b c ++ remaining_fields y → remaining_at (has_size y) s at ≡ y
-        remaining Absent e = refl
-        remaining (Words w) e =
+        remaining : (y : Option ℕ) → fields_at (triad a b c ++ remaining_fields y) s at ≡ triad a b c ++ remaining_fields y → remaining_at (has_size y) s at ≡ y
+        remaining None e = refl
+        remaining (Some w) e =
             let n : at + 8 ≡ at + 2 + 2 + 4 = omega arith in
-            ap (λ (q : ℕ). Words (get_or s q 0)) n ∙ ap (λ (l : List Field). Words (field 3 l)) e
+            ap (λ (q : ℕ). Some (get_or s q 0)) n ∙ ap (λ (l : List Field). Some (field 3 l)) e
 
 -- the failure and whatever follows
 module _ (service : ℕ) (st : Status) (f : ForwardRequestFail) (rest : List ℕ) where

@@ -9,7 +9,7 @@ pub use close_sizes::forward_close_size;
 pub use default_path::default_connection_path;
 pub use message_encode::write_message;
 pub use message_over::write_message_over;
-pub use message_read::{MessageRead, MessageRequest, read_message};
+pub use message_read::{MessageRequest, read_message};
 pub use open_encode::write_forward_open;
 pub use open_read::{OpenRead, read_forward_open};
 pub use open_sizes::forward_open_size;

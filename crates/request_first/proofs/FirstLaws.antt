@@ -4,24 +4,24 @@ use mathlib.Core.Path.{◌≡◌, sym, ap, ◌∙◌}
 use mathlib.Core.List.{List}
 use native.Mathlib.Omega.{arith}
 use lib.ListN.{length, get_or}
+use Rattle.std.specs.Prelude.{Result, Ok, Err}
+use Rattle.wire.specs.Answers.{paper}
 use Rattle.wire.specs.Refusals.{number}
 use Rattle.wire.specs.Answers.{Answer, done, refused, Rule, judged}
 use Rattle.wire.specs.declared.Refusal.{Refusal}
 use Rattle.wire.proofs.Rules.{rules, all_keep, all_were, same_refusal}
 use Rattle.connection.specs.Limits.{max_record}
-use Rattle.request_first.specs.declared.Judged.{Judged}
-use Rattle.request_first.specs.declared.Judged.TheVariants.{Kept, Refused as Broken}
-use Rattle.request_first.specs.Firsts.{most_ticks, first_rules, verdict, paper_judged}
+use Rattle.request_first.specs.Firsts.{most_ticks, first_rules, verdict}
 
 -- ---- what a callee answered, and the question after it
 
 -- rules that a function judged
-module _ {A : Type 0} (rs : List Rule) (y : Answer A) (r : Judged) (is : paper_judged r ≡ verdict rs) where
-  pub kept_stops : (e : Refusal) → r ≡ Broken e → refused (number e) ≡ judged rs y
-  kept_stops e h = sym (same_refusal rs tt y (number e) (sym is ∙ ap paper_judged h))
+module _ {A : Type 0} (rs : List Rule) (y : Answer A) (r : Result (Unit {0}) Refusal) (is : paper r ≡ verdict rs) where
+  pub kept_stops : (e : Refusal) → r ≡ Err e → refused (number e) ≡ judged rs y
+  kept_stops e h = sym (same_refusal rs tt y (number e) (sym is ∙ ap paper h))
 
-  pub kept_goes : (z : Answer A) → r ≡ Kept → z ≡ y → z ≡ judged rs y
-  kept_goes z h e = e ∙ sym (all_keep rs y (all_were _ _ tt (sym is ∙ ap paper_judged h)).0)
+  pub kept_goes : (z : Answer A) → r ≡ (Ok tt) → z ≡ y → z ≡ judged rs y
+  kept_goes z h e = e ∙ sym (all_keep rs y (all_were _ _ tt (sym is ∙ ap paper h)).0)
 
 -- ---- the first byte
 module _ (s : List ℕ) where

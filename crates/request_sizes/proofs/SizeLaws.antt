@@ -6,11 +6,10 @@ use native.Mathlib.Omega.{arith}
 use lib.ListN.{length}
 use mir.Val.{Fits}
 use mir.Syntax.{w64}
+use Rattle.std.specs.Prelude.{Result, Ok, Err}
 use Rattle.wire.specs.Refusals.{number}
-use Rattle.wire.specs.Answers.{done, refused, paper_size, within_limit}
+use Rattle.wire.specs.Answers.{done, refused, paper, within_limit}
 use Rattle.wire.specs.declared.Refusal.{Refusal}
-use Rattle.wire.specs.declared.Wrote.{Wrote}
-use Rattle.wire.specs.declared.Wrote.TheVariants.{Size, Refused}
 use Rattle.wire.proofs.Rules.{rules, then_stops, then_goes, within_was}
 use Rattle.connection_words.proofs.Lengths.{message_length, send_length}
 use Rattle.epath_sizes.specs.Segments.{encode}
@@ -41,23 +40,23 @@ module _ (head n : ℕ) (small : head ≤ 1000) where
 pub ruleset record_laws = (record_over, record_is, record_head, record_fits)
 
 -- ---- forwards: what the code's ends answer
-module _ (pool : List ℕ) (p : Path) (r : Wrote) (is : paper_size r ≡ route_size pool p) where
-  module _ (e : Refusal) (h : r ≡ Refused e) where
+module _ (pool : List ℕ) (p : Path) (r : Result ℕ Refusal) (is : paper r ≡ route_size pool p) where
+  module _ (e : Refusal) (h : r ≡ Err e) where
     pub message_stops : (d : ℕ) → refused (number e) ≡ message_size pool p d
     unfolding message_size
-    message_stops d = then_stops _ _ (number e) (sym is ∙ ap paper_size h)
+    message_stops d = then_stops _ _ (number e) (sym is ∙ ap paper h)
 
     pub send_stops : (m : ℕ) → refused (number e) ≡ send_size pool p m
     unfolding send_size
-    send_stops m = then_stops _ _ (number e) (sym is ∙ ap paper_size h)
+    send_stops m = then_stops _ _ (number e) (sym is ∙ ap paper h)
 
-  module _ (n : ℕ) (h : r ≡ Size n) where
+  module _ (n : ℕ) (h : r ≡ Ok n) where
     short : n ≤ max_path
-    short = (route_sized pool p n (sym is ∙ ap paper_size h)).short
+    short = (route_sized pool p n (sym is ∙ ap paper h)).short
 
-    pub message_is : (d : ℕ) (q : Wrote) → paper_size q ≡ within_limit max_record (2 + n + d) → paper_size q ≡ message_size pool p d
+    pub message_is : (d : ℕ) (q : Result ℕ Refusal) → paper q ≡ within_limit max_record (2 + n + d) → paper q ≡ message_size pool p d
     unfolding message_size
-    message_is d q e = then_goes _ _ n _ (sym is ∙ ap paper_size h) e
+    message_is d q e = then_goes _ _ n _ (sym is ∙ ap paper h) e
 
     pub message_head : 2 + n ≤ 1000
     message_head = omega (arith, short)
@@ -65,9 +64,9 @@ module _ (pool : List ℕ) (p : Path) (r : Wrote) (is : paper_size r ≡ route_s
     pub message_fits : Fits w64 (2 + n)
     message_fits = record { fits = omega (arith, short) }
 
-    pub send_is : (m : ℕ) (q : Wrote) → paper_size q ≡ within_limit max_record (6 + n + m % 2 + m) → paper_size q ≡ send_size pool p m
+    pub send_is : (m : ℕ) (q : Result ℕ Refusal) → paper q ≡ within_limit max_record (6 + n + m % 2 + m) → paper q ≡ send_size pool p m
     unfolding send_size
-    send_is m q e = then_goes _ _ n _ (sym is ∙ ap paper_size h) e
+    send_is m q e = then_goes _ _ n _ (sym is ∙ ap paper h) e
 
     pub send_head_lem : (m : ℕ) → 6 + n + m % 2 ≤ 1000
     send_head_lem m = omega (arith, short)
@@ -83,17 +82,17 @@ pub ruleset size_laws = (message_stops, message_is, message_head, message_fits, 
 -- ---- backwards
 
 -- a request that was sized and has its room: its path is ready to be written
-module _ (pool : List ℕ) (p : Path) (r : Wrote) (size : ℕ) (h : r ≡ Size size) where
-  pub message_ready : (d : ℕ) (out : List ℕ) → paper_size r ≡ message_size pool p d → size ≤ length out → Ready pool p 2 out
+module _ (pool : List ℕ) (p : Path) (r : Result ℕ Refusal) (size : ℕ) (h : r ≡ Ok size) where
+  pub message_ready : (d : ℕ) (out : List ℕ) → paper r ≡ message_size pool p d → size ≤ length out → Ready pool p 2 out
   unfolding message_size
   message_ready d out is g =
-      let w = left pool p _ size (sym is ∙ ap paper_size h) in
+      let w = left pool p _ size (sym is ∙ ap paper h) in
       record { size = w.n; is = w.is; short = w.short; room = omega (arith, (within_was _ _ size w.then).1) }
 
-  module _ (m : ℕ) (is : paper_size r ≡ send_size pool p m) where
+  module _ (m : ℕ) (is : paper r ≡ send_size pool p m) where
     sent : Left pool p (λ k. within_limit max_record (6 + k + m % 2 + m)) size
     unfolding send_size
-    sent = left pool p _ size (sym is ∙ ap paper_size h)
+    sent = left pool p _ size (sym is ∙ ap paper h)
 
     pub send_small : m ≤ max_record
     send_small = omega (arith, (within_was _ _ size sent.then).0)
@@ -106,17 +105,17 @@ pub ruleset ready_laws = (message_ready, send_small, send_ready)
 
 -- ---- a size is that of the bytes
 
-module _ (pool : List ℕ) (p : Path) (r : Wrote) (size : ℕ) (h : r ≡ Size size) where
+module _ (pool : List ℕ) (p : Path) (r : Result ℕ Refusal) (size : ℕ) (h : r ≡ Ok size) where
   abbrev path : List ℕ
   path = encode (segs_of pool p)
 
-  pub message_sized : (service : ℕ) (content : List ℕ) → paper_size r ≡ message_size pool p (length content) → size ≡ length (message_bytes service path content)
+  pub message_sized : (service : ℕ) (content : List ℕ) → paper r ≡ message_size pool p (length content) → size ≡ length (message_bytes service path content)
   unfolding message_size
   message_sized service content is =
-      let w = left pool p _ size (sym is ∙ ap paper_size h) in
+      let w = left pool p _ size (sym is ∙ ap paper h) in
       omega (arith, (within_was _ _ size w.then).1, (path_sized pool p w.n w.is).size, message_length service path content)
 
-  pub send_sized : (u : UnconnectedSend) (message : List ℕ) → paper_size r ≡ send_size pool p (length message) → size ≡ length (send_bytes u message path)
+  pub send_sized : (u : UnconnectedSend) (message : List ℕ) → paper r ≡ send_size pool p (length message) → size ≡ length (send_bytes u message path)
   send_sized u message is =
       let w = sent pool p r size h (length message) is in
       omega (arith, (within_was _ _ size w.then).1, (path_sized pool p w.n w.is).size, send_length u message path)

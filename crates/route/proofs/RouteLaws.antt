@@ -1,17 +1,16 @@
 -- The path behind a size byte: its size, its room, its store. Assumes nothing.
 use Prim.Native.Nat.{ℕ, ◌+◌, ◌-◌, ◌/◌, ◌%◌, ◌≤◌, ◌<◌}
-use mathlib.Core.Path.{◌≡◌, sym, ap, ◌∙◌}
+use mathlib.Core.Path.{◌≡◌, refl, sym, ap, ◌∙◌}
 use mathlib.Core.List.{List, ◌++◌}
 use native.Mathlib.Omega.{arith}
 use lib.ListN.{length, take, drop}
 use lib.Seq.{sets}
 use mir.Val.{Fits}
 use mir.Syntax.{w8, w64}
+use Rattle.std.specs.Prelude.{Result, Ok, Err, IsOk}
 use Rattle.wire.specs.Refusals.{number}
-use Rattle.wire.specs.Answers.{Answer, done, refused, paper_size, and_then, with_room, written, within_limit}
+use Rattle.wire.specs.Answers.{Answer, done, refused, paper, and_then, with_room, written, within_limit}
 use Rattle.wire.specs.declared.Refusal.{Refusal}
-use Rattle.wire.specs.declared.Wrote.{Wrote}
-use Rattle.wire.specs.declared.Wrote.TheVariants.{Size, Refused}
 use Rattle.wire.proofs.Rules.{rules, never, done_same, then_stops, then_goes, then_were, within_was}
 use Rattle.wire.proofs.Answers.{room_kept}
 use Rattle.wire.proofs.Stores.{length_lent, sets_lent, sets_overlay}
@@ -25,22 +24,22 @@ use Rattle.connection.specs.Limits.{max_path}
 use Rattle.route.specs.Routes.{route_size, Ready, Routed}
 
 -- ---- how many bytes
-module _ (pool : List ℕ) (p : Path) (r : Wrote) (is : paper_size r ≡ path_size pool p) where
-  pub route_stops : (e : Refusal) → r ≡ Refused e → refused (number e) ≡ route_size pool p
+module _ (pool : List ℕ) (p : Path) (r : Result ℕ Refusal) (is : paper r ≡ path_size pool p) where
+  pub route_stops : (e : Refusal) → r ≡ Err e → refused (number e) ≡ route_size pool p
   unfolding route_size
-  route_stops e h = then_stops _ _ (number e) (sym is ∙ ap paper_size h)
+  route_stops e h = then_stops _ _ (number e) (sym is ∙ ap paper h)
 
-  module _ (n : ℕ) (h : r ≡ Size n) where
+  module _ (n : ℕ) (h : r ≡ Ok n) where
     judge : {z : Answer ℕ} → z ≡ within_limit max_path n → z ≡ route_size pool p
     unfolding route_size
-    judge {z} e = then_goes _ _ n z (sym is ∙ ap paper_size h) e
+    judge {z} e = then_goes _ _ n z (sym is ∙ ap paper h) e
 
     pub route_long : max_path < n → refused 3 ≡ route_size pool p
     route_long g = judge (search rules)
 
     -- the crate's check for an odd size never fires
     pub route_odd : n ≤ max_path → (n % 2 ≡ 0 → ⊥) → refused 5 ≡ route_size pool p
-    route_odd g odd = absurd (odd (size_even pool p n (sym is ∙ ap paper_size h)))
+    route_odd g odd = absurd (odd (size_even pool p n (sym is ∙ ap paper h)))
 
     pub route_is : n ≤ max_path → done n ≡ route_size pool p
     route_is g = judge (search rules)
@@ -73,6 +72,11 @@ left pool p f size h =
     record { n = w.found; is = r.is; short = r.short; then = w.then }
 
 -- ---- storing it in the rest of an output
+
+answered : (r : Result ℕ Refusal) (n : ℕ) → paper r ≡ done n → IsOk r
+answered (Ok k) n h = refl
+answered (Err e) n h = never h
+
 module _ (pool : List ℕ) (p : Path) (at : ℕ) (old : List ℕ) (ready : Ready pool p at old) where
   pub put_at : at ≤ length old
   put_at = omega (arith, ready.room)
@@ -83,14 +87,17 @@ module _ (pool : List ℕ) (p : Path) (at : ℕ) (old : List ℕ) (ready : Ready
   fits : with_room (path_size pool p) (length lent) ≡ done ready.size
   fits = room_kept (path_size pool p) (length lent) ready.size ready.is (omega (arith, ready.room, length_lent old at))
 
-  module _ (r : Wrote) (is : paper_size r ≡ with_room (path_size pool p) (length lent)) where
+  module _ (r : Result ℕ Refusal) (is : paper r ≡ with_room (path_size pool p) (length lent)) where
     -- it is not refused
-    pub put_never : (e : Refusal) → r ≡ Refused e → (x y : List ℕ) → x ≡ y
-    put_never e h x y = never (sym (ap paper_size h) ∙ is ∙ fits)
+    pub put_ok : IsOk r
+    put_ok = answered r ready.size (is ∙ fits)
 
-    module _ (n : ℕ) (h : r ≡ Size n) where
+    pub put_never : (e : Refusal) → r ≡ Err e → (x y : List ℕ) → x ≡ y
+    put_never e h x y = never (sym (ap paper h) ∙ is ∙ fits)
+
+    module _ (n : ℕ) (h : r ≡ Ok n) where
       size_is : n ≡ ready.size
-      size_is = done_same (sym (ap paper_size h) ∙ is ∙ fits)
+      size_is = done_same (sym (ap paper h) ∙ is ∙ fits)
 
       -- its size in words, and the place behind it
       pub put_words : Fits w8 (n / 2)
@@ -112,4 +119,4 @@ module _ (pool : List ℕ) (p : Path) (at : ℕ) (old : List ℕ) (ready : Ready
             stored = ap (λ (t : List ℕ). take at old ++ (t ++ drop (length old - at) (drop at old))) e ∙ sets_lent old bs at;
           }
 
-pub ruleset put_laws = (put_at, put_never, put_words, put_behind, put_done)
+pub ruleset put_laws = (put_at, put_ok, put_never, put_words, put_behind, put_done)

@@ -4,28 +4,25 @@ use mathlib.Core.Path.{◌≡◌, sym, ap, ◌∙◌}
 use mathlib.Core.List.{List}
 use native.Mathlib.Omega.{arith}
 use lib.ListN.{length}
+use Rattle.std.specs.Prelude.{Result, Ok, Err}
 use Rattle.wire.specs.Refusals.{number}
-use Rattle.wire.specs.Answers.{Answer, done, refused, paper_size, paper_count, within_limit}
+use Rattle.wire.specs.Answers.{Answer, done, refused, paper, within_limit}
 use Rattle.wire.specs.declared.Refusal.{Refusal}
-use Rattle.wire.specs.declared.Wrote.{Wrote}
-use Rattle.wire.specs.declared.Wrote.TheVariants.{Size}
-use Rattle.wire.specs.declared.Counted.{Counted}
-use Rattle.wire.specs.declared.Counted.TheVariants.{Count, Refused}
 use Rattle.wire.proofs.Rules.{rules, within_was}
 use Rattle.connection.specs.Limits.{max_path, max_record}
 use Rattle.route_written.specs.Written.{written_route, over_size}
 use Rattle.route_written.proofs.WrittenLaws.{over_stops, over_goes, over_short, Over, over_was}
 
 -- ---- forwards: what the code's ends answer
-module _ (path : List ℕ) (w : Counted) (is : paper_count w ≡ written_route path) (head rest : ℕ) where
+module _ (path : List ℕ) (w : Result ℕ Refusal) (is : paper w ≡ written_route path) (head rest : ℕ) where
   abbrev sum : ℕ → Answer ℕ
   sum n = within_limit max_record (head + n + rest)
 
-  pub record_stops : (e : Refusal) → w ≡ Refused e → refused (number e) ≡ over_size path head rest
+  pub record_stops : (e : Refusal) → w ≡ Err e → refused (number e) ≡ over_size path head rest
   unfolding over_size
   record_stops e h = over_stops path w is sum e h
 
-  module _ (n : ℕ) (h : w ≡ Count n) where
+  module _ (n : ℕ) (h : w ≡ Ok n) where
     short : n ≤ max_path
     short = over_short path w is n h
 
@@ -52,10 +49,10 @@ module _ (path : List ℕ) (w : Counted) (is : paper_count w ≡ written_route p
 pub ruleset record_laws = (record_stops, record_path, record_head, record_rest, record_is)
 
 -- ---- backwards: a size that was answered
-module _ (path : List ℕ) (head rest : ℕ) (r : Wrote) (is : paper_size r ≡ over_size path head rest) (size : ℕ) (h : r ≡ Size size) where
+module _ (path : List ℕ) (head rest : ℕ) (r : Result ℕ Refusal) (is : paper r ≡ over_size path head rest) (size : ℕ) (h : r ≡ Ok size) where
   was : Over path (λ n. within_limit max_record (head + n + rest)) size
   unfolding over_size
-  was = over_was path (λ n. within_limit max_record (head + n + rest)) size (sym is ∙ ap paper_size h)
+  was = over_was path (λ n. within_limit max_record (head + n + rest)) size (sym is ∙ ap paper h)
 
   pub over_path : length path ≤ max_path
   over_path = was.short

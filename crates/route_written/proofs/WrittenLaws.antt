@@ -3,11 +3,10 @@ use Prim.Native.Nat.{ℕ, ◌≤◌, ◌<◌}
 use mathlib.Core.Path.{◌≡◌, refl, sym, ap, ◌∙◌}
 use mathlib.Core.List.{List}
 use lib.ListN.{length}
+use Rattle.std.specs.Prelude.{Result, Ok, Err}
 use Rattle.wire.specs.Refusals.{number}
-use Rattle.wire.specs.Answers.{Answer, done, refused, paper_count, and_then}
+use Rattle.wire.specs.Answers.{Answer, done, refused, paper, and_then}
 use Rattle.wire.specs.declared.Refusal.{Refusal}
-use Rattle.wire.specs.declared.Counted.{Counted}
-use Rattle.wire.specs.declared.Counted.TheVariants.{Count, Refused}
 use Rattle.wire.proofs.Rules.{rules, done_same, all_were, then_stops, then_goes, Went, then_were}
 use Rattle.epath_check.specs.Paths.{check_path}
 use Rattle.connection.specs.Limits.{max_path}
@@ -19,16 +18,16 @@ module _ (path : List ℕ) where
   unfolding written_route
   written_long g = search rules
 
-  module _ (short : length path ≤ max_path) (w : Counted) (is : paper_count w ≡ check_path path) where
+  module _ (short : length path ≤ max_path) (w : Result ℕ Refusal) (is : paper w ≡ check_path path) where
     kept : (z : Answer ℕ) → z ≡ and_then (check_path path) (λ _. done (length path)) → z ≡ written_route path
     unfolding written_route
     kept z e = search rules
 
-    pub written_stops : (e : Refusal) → w ≡ Refused e → refused (number e) ≡ written_route path
-    written_stops e h = kept (refused (number e)) (then_stops _ _ (number e) (sym is ∙ ap paper_count h))
+    pub written_stops : (e : Refusal) → w ≡ Err e → refused (number e) ≡ written_route path
+    written_stops e h = kept (refused (number e)) (then_stops _ _ (number e) (sym is ∙ ap paper h))
 
-    pub written_is : (n : ℕ) → w ≡ Count n → done (length path) ≡ written_route path
-    written_is n h = kept (done (length path)) (then_goes _ _ n (done (length path)) (sym is ∙ ap paper_count h) refl)
+    pub written_is : (n : ℕ) → w ≡ Ok n → done (length path) ≡ written_route path
+    written_is n h = kept (done (length path)) (then_goes _ _ n (done (length path)) (sym is ∙ ap paper h) refl)
 
 pub ruleset written_laws = (written_long, written_stops, written_is)
 
@@ -46,16 +45,16 @@ taken path n h =
     record { size = sym q; short = rw (← q) k.0.0 }
 
 -- ---- a size that goes on from the path's
-module _ (path : List ℕ) (w : Counted) (is : paper_count w ≡ written_route path) where
-  pub over_stops : (f : ℕ → Answer ℕ) (e : Refusal) → w ≡ Refused e → refused (number e) ≡ and_then (written_route path) f
-  over_stops f e h = then_stops _ _ (number e) (sym is ∙ ap paper_count h)
+module _ (path : List ℕ) (w : Result ℕ Refusal) (is : paper w ≡ written_route path) where
+  pub over_stops : (f : ℕ → Answer ℕ) (e : Refusal) → w ≡ Err e → refused (number e) ≡ and_then (written_route path) f
+  over_stops f e h = then_stops _ _ (number e) (sym is ∙ ap paper h)
 
-  module _ (n : ℕ) (h : w ≡ Count n) where
+  module _ (n : ℕ) (h : w ≡ Ok n) where
     pub over_goes : (f : ℕ → Answer ℕ) {z : Answer ℕ} → z ≡ f n → z ≡ and_then (written_route path) f
-    over_goes f {z} e = then_goes _ _ n z (sym is ∙ ap paper_count h) e
+    over_goes f {z} e = then_goes _ _ n z (sym is ∙ ap paper h) e
 
     pub over_short : n ≤ max_path
-    over_short = (taken path n (sym is ∙ ap paper_count h)).short
+    over_short = (taken path n (sym is ∙ ap paper h)).short
 
 -- backwards: the path's size, and what went on from it
 pub record Over (path : List ℕ) (f : ℕ → Answer ℕ) (size : ℕ) : Type 0 where

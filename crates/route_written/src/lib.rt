@@ -2,40 +2,33 @@
 #![tactic(auto)]
 
 ghost use Rattle.std.specs.Prelude.{◌≡◌};
-ghost use Rattle.wire.specs.Answers.{paper_count, paper_size};
+ghost use Rattle.wire.specs.Answers.{paper};
 ghost use Rattle.route_written.specs.Written.{written_route, over_size};
 
 use epath_check::check_path;
-use wire::{Counted, Refusal, Wrote};
+use wire::Refusal;
 
 // How many bytes a written path behind a size byte takes.
-pub fn written_route(path: &[u8]) -> Counted
-    ensures { paper_count result ≡ written_route path.now }
+#[tactic(auto, using(crate::proofs::WrittenLaws::written_laws))]
+pub fn written_route(path: &[u8]) -> Result<usize, Refusal>
+    ensures { paper result ≡ written_route path.now }
 {
     if connection::MAX_PATH < path.len() {
-        return Counted::Refused(Refusal::Limit);
+        return Err(Refusal::Limit);
     }
-    match check_path(path) {
-        Counted::Refused(e) => Counted::Refused(e),
-        Counted::Count(_) => Counted::Count(path.len()),
-    }
+    check_path(path)?;
+    Ok(path.len())
 }
 
 // How many bytes a record takes that has head bytes and rest of a lent part beside a written path.
-pub fn written_record(path: &[u8], head: usize, rest: usize) -> Wrote
-    ensures { paper_size result ≡ over_size path.now head rest }
+#[tactic(auto, using(crate::proofs::RecordLaws::record_laws))]
+pub fn written_record(path: &[u8], head: usize, rest: usize) -> Result<usize, Refusal>
+    ensures { paper result ≡ over_size path.now head rest }
 {
-    match written_route(path) {
-        Counted::Refused(e) => Wrote::Refused(e),
-        Counted::Count(n) => {
-            let left = connection::MAX_RECORD - n;
-            if left < head {
-                return Wrote::Refused(Refusal::Limit);
-            }
-            if left - head < rest {
-                return Wrote::Refused(Refusal::Limit);
-            }
-            Wrote::Size(head + n + rest)
-        }
+    let n = written_route(path)?;
+    let left = connection::MAX_RECORD - n;
+    if left < head || left - head < rest {
+        return Err(Refusal::Limit);
     }
+    Ok(head + n + rest)
 }

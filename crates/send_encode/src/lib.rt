@@ -4,7 +4,7 @@
 
 ghost use Rattle.std.specs.Prelude.{◌≡◌, ◌+◌, ◌%◌, ◌≤◌, length};
 ghost use Rattle.std.proofs.lemmas.List.Edits.{sets};
-ghost use Rattle.wire.specs.Answers.{paper_size, with_room, written};
+ghost use Rattle.wire.specs.Answers.{paper, with_room, written};
 ghost use Rattle.epath_sizes.specs.Segments.{encode};
 ghost use Rattle.epath_sizes.specs.Lists.{segs_of};
 ghost use Rattle.connection.specs.Limits.{max_record};
@@ -17,44 +17,39 @@ use epath_encode::write_path;
 use epath_sizes::Path;
 use request_sizes::unconnected_send_size;
 use send_fields::put_send_fields;
-use wire::{Refusal, Wrote};
+use wire::Refusal;
 use wire_write::put_bytes;
 
 // An Unconnected Send that was judged.
+#[tactic(auto, using(route::proofs::RouteLaws::put_laws, crate::proofs::WriteLaws::send_put))]
 fn put_send(u: UnconnectedSend, message: &[u8], p: Path, pool: &[u8], out: &mut [u8])
     requires { (length message.now ≤ max_record) × Ready pool.now p (6 + length message.now % 2 + length message.now) out.old }
     ensures { out.new ≡ sets out.old 0 (send_bytes u message.now (encode (segs_of pool.now p))) }
 {
     let m = message.len();
     let at = 6 + m % 2 + m;
-    match write_path(p, pool, &mut out[at..]) {
-        Wrote::Refused(_) => {}
-        Wrote::Size(n) => {
-            put_bytes(out, 4, message);
-            put_send_fields(u, m as u16, (n / 2) as u8, out);
-        }
-    }
+    let n = write_path(p, pool, &mut out[at..]).unwrap();
+    put_bytes(out, 4, message);
+    put_send_fields(u, m as u16, (n / 2) as u8, out);
 }
 
 // Writes an Unconnected Send at the front of out, or changes nothing. The message is plain bytes here.
+#[tactic(auto, using(wire::proofs::Answers::writer_laws, request_sizes::proofs::SizeLaws::ready_laws, request_sizes::proofs::SizeLaws::length_laws))]
 pub fn write_unconnected_send(
     u: UnconnectedSend,
     message: &[u8],
     p: Path,
     pool: &[u8],
     out: &mut [u8],
-) -> Wrote
-    ensures answer { paper_size result ≡ with_room (send_size pool.now p (length message.now)) (length out.old) }
+) -> Result<usize, Refusal>
+    ensures answer { paper result ≡ with_room (send_size pool.now p (length message.now)) (length out.old) }
     ensures bytes { out.new ≡ written (with_room (send_size pool.now p (length message.now)) (length out.old)) (send_bytes u message.now (encode (segs_of pool.now p))) out.old }
 {
-    match unconnected_send_size(message, p, pool) {
-        Wrote::Refused(e) => Wrote::Refused(e),
-        Wrote::Size(size) => {
-            if out.len() < size {
-                return Wrote::Refused(Refusal::Room);
-            }
-            put_send(u, message, p, pool, out);
-            Wrote::Size(size)
-        }
+    // size, room, store, as every writer: one for all would take the store as a closure with its need, for no line less
+    let size = unconnected_send_size(message, p, pool)?;
+    if out.len() < size {
+        return Err(Refusal::Room);
     }
+    put_send(u, message, p, pool, out);
+    Ok(size)
 }

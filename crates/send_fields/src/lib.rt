@@ -16,9 +16,9 @@ fn put_rest(out: &mut [u8], at: usize, m: u16, words: u8)
 {
     if m % 2 == 0 {
         put_bytes(out, at, &[words, 0]);
-        return;
+    } else {
+        put_bytes(out, at, &[0, words, 0]);
     }
-    put_bytes(out, at, &[0, words, 0]);
 }
 
 // Stores what stands before a message of m bytes and what stands behind it; past the end nothing changes.

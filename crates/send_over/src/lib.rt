@@ -3,7 +3,7 @@
 
 ghost use Rattle.std.specs.Prelude.{◌≡◌, ◌≤◌, length};
 ghost use Rattle.std.proofs.lemmas.List.Edits.{sets};
-ghost use Rattle.wire.specs.Answers.{paper_size, with_room, written};
+ghost use Rattle.wire.specs.Answers.{paper, with_room, written};
 ghost use Rattle.connection.specs.Limits.{max_path, max_record};
 ghost use Rattle.connection_words.specs.Requests.{send_bytes};
 ghost use Rattle.send_over.specs.Over.{send_over_size};
@@ -11,10 +11,11 @@ ghost use Rattle.send_over.specs.Over.{send_over_size};
 use connection::UnconnectedSend;
 use route_written::written_record;
 use send_fields::put_send_fields;
-use wire::{Refusal, Wrote};
+use wire::Refusal;
 use wire_write::put_bytes;
 
 // An Unconnected Send over a path that was judged.
+#[tactic(auto, using(send_fields::proofs::Laws::send_around))]
 fn put_send_over(u: UnconnectedSend, message: &[u8], path: &[u8], out: &mut [u8])
     requires { (length message.now ≤ max_record) × (length path.now ≤ max_path) }
     ensures { out.new ≡ sets out.old 0 (send_bytes u message.now path.now) }
@@ -27,24 +28,21 @@ fn put_send_over(u: UnconnectedSend, message: &[u8], path: &[u8], out: &mut [u8]
 }
 
 // As write_unconnected_send, over a written path.
+#[tactic(auto, using(wire::proofs::Answers::writer_laws, crate::proofs::OverLaws::over_laws))]
 pub fn write_unconnected_send_over(
     u: UnconnectedSend,
     message: &[u8],
     path: &[u8],
     out: &mut [u8],
-) -> Wrote
-    ensures answer { paper_size result ≡ with_room (send_over_size path.now (length message.now)) (length out.old) }
+) -> Result<usize, Refusal>
+    ensures answer { paper result ≡ with_room (send_over_size path.now (length message.now)) (length out.old) }
     ensures bytes { out.new ≡ written (with_room (send_over_size path.now (length message.now)) (length out.old)) (send_bytes u message.now path.now) out.old }
 {
     let m = message.len();
-    match written_record(path, 6 + m % 2, m) {
-        Wrote::Refused(e) => Wrote::Refused(e),
-        Wrote::Size(size) => {
-            if out.len() < size {
-                return Wrote::Refused(Refusal::Room);
-            }
-            put_send_over(u, message, path, out);
-            Wrote::Size(size)
-        }
+    let size = written_record(path, 6 + m % 2, m)?;
+    if out.len() < size {
+        return Err(Refusal::Room);
     }
+    put_send_over(u, message, path, out);
+    Ok(size)
 }

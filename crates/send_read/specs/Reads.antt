@@ -1,14 +1,14 @@
 -- The reader of Unconnected Send (CIP Volume 1, 3-5.5.4), executable: fields in wire order, the first broken rule refuses. Rules and numbers from
 -- document 01, "Requests". Assumes nothing: these are definitions.
-use Rattle.std.specs.Prelude.{ℕ, ◌+◌, ◌%◌, List, [], ◌∷◌, length, get_or, drop}
+use Rattle.std.specs.Prelude.{ℕ, ◌+◌, ◌%◌, List, [], ◌∷◌, length, get_or, drop, Result, Ok, Err}
 use Rattle.wire.specs.Numbers.{value_of}
 use Rattle.wire.specs.Refusals.{number}
+use Rattle.wire.specs.declared.Refusal.{Refusal}
 use Rattle.wire.specs.Answers.{Answer, done, refused, and_then, Rule, under, other, judged}
 use Rattle.request_first.specs.Firsts.{first_rules}
 use Rattle.message_read.specs.Reads.{padded_route_at}
 use Rattle.connection.specs.declared.UnconnectedSend.{UnconnectedSend}
 use Rattle.send_read.specs.declared.SendRead.{SendRead}
-use Rattle.send_read.specs.declared.SendRead.TheVariants.{Found as FoundSend, Refused as NoSend}
 
 -- ---- Unconnected Send (3-5.5.4): two bytes, the message's size, the message, a zero where it is odd, path size, a reserved byte, path
 
@@ -40,6 +40,6 @@ read_send s = judged (first_rules s) (judged (under (length s) 4 1 ∷ []) (send
 
 -- ---- what the function answers
 
-abbrev pub paper_send : SendRead → Answer Sent
-paper_send (FoundSend u from m start len) = done (sent u from m start len)
-paper_send (NoSend e) = refused (number e)
+abbrev pub paper_send : Result SendRead Refusal → Answer Sent
+paper_send (Ok r) = done (sent r.send r.message_start r.message_len r.path_start r.path_len)
+paper_send (Err e) = refused (number e)

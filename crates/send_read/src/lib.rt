@@ -3,86 +3,76 @@
 // The reader answers the record, and its parts as starts and lengths in the input; the path is judged and its segments are read from that part.
 #![tactic(auto)]
 
-ghost use Rattle.std.specs.Prelude.{◌≡◌, ◌%◌, drop};
-ghost use Rattle.wire.specs.Numbers.{value_of};
-ghost use Rattle.request_first.specs.Firsts.{verdict, paper_judged};
+ghost use Rattle.std.specs.Prelude.{◌≡◌};
+ghost use Rattle.wire.specs.Answers.{paper};
+ghost use Rattle.request_first.specs.Firsts.{verdict};
 ghost use Rattle.send_read.specs.Reads.{message_rules, paper_send, send_behind, read_send};
 
 use connection::UnconnectedSend;
 use message_read::padded_route_at;
-use request_first::{Judged, first_byte};
-use wire::{Counted, Refusal};
+use request_first::first_byte;
+use wire::Refusal;
 use wire_read::{byte_at, u16_at};
 
-// The record, start and length of the message, and of the path.
+// The record, start and length of the message in the input, and of the path.
 #[derive(Clone, Copy)]
-pub enum SendRead {
-    Found(UnconnectedSend, usize, usize, usize, usize),
-    Refused(Refusal),
+pub struct SendRead {
+    pub send: UnconnectedSend,
+    pub message_start: usize,
+    pub message_len: usize,
+    pub path_start: usize,
+    pub path_len: usize,
 }
 
-// The pad behind n bytes: the byte at a place where n is odd, else none.
-fn pad_at(s: &[u8], at: usize, n: u16) -> u8
-    ensures { result ≡ value_of (n % 2) (drop at s.now) }
-{
-    if n % 2 == 0 {
-        return 0;
-    }
-    byte_at(s, at)
-}
-
-// A message of m bytes and its pad.
-fn judge_message(s: &[u8], m: u16) -> Judged
-    ensures { paper_judged result ≡ verdict (message_rules s.now m) }
+// A message of m bytes, and the zero behind it where m is odd.
+#[tactic(auto, using(crate::proofs::ReadLaws::send_laws))]
+fn judge_message(s: &[u8], m: u16) -> Result<(), Refusal>
+    ensures { paper result ≡ verdict (message_rules s.now m) }
 {
     let end = 4 + m as usize;
     if s.len() < end {
-        return Judged::Refused(Refusal::Short);
+        return Err(Refusal::Short);
     }
-    if s.len() < end + (m % 2) as usize {
-        return Judged::Refused(Refusal::Short);
+    if m % 2 == 0 {
+        return Ok(());
     }
-    let pad = pad_at(s, end, m);
-    if pad != 0 {
-        return Judged::Refused(Refusal::Form);
+    match s.get(end) {
+        None => Err(Refusal::Short),
+        Some(0) => Ok(()),
+        Some(_) => Err(Refusal::Form),
     }
-    Judged::Kept
 }
 
 // What follows the message's size m.
-fn send_behind(s: &[u8], m: u16) -> SendRead
+#[tactic(auto, using(crate::proofs::ReadLaws::send_laws))]
+fn send_behind(s: &[u8], m: u16) -> Result<SendRead, Refusal>
     ensures { paper_send result ≡ send_behind s.now m }
 {
-    match judge_message(s, m) {
-        Judged::Refused(e) => SendRead::Refused(e),
-        Judged::Kept => {
-            let end = 4 + m as usize + (m % 2) as usize;
-            match padded_route_at(s, end) {
-                Counted::Refused(e) => SendRead::Refused(e),
-                Counted::Count(len) => {
-                    let u = UnconnectedSend {
-                        priority_ticks: byte_at(s, 0),
-                        timeout_ticks: byte_at(s, 1),
-                    };
-                    SendRead::Found(u, 4, m as usize, end + 2, len)
-                }
-            }
-        }
-    }
+    judge_message(s, m)?;
+    let message_len = m as usize;
+    let end = 4 + message_len + message_len % 2;
+    let path_len = padded_route_at(s, end)?;
+    Ok(SendRead {
+        send: UnconnectedSend {
+            priority_ticks: byte_at(s, 0),
+            timeout_ticks: byte_at(s, 1),
+        },
+        message_start: 4,
+        message_len,
+        path_start: end + 2,
+        path_len,
+    })
 }
 
 // Reads an Unconnected Send; its message is plain bytes here.
-pub fn read_unconnected_send(s: &[u8]) -> SendRead
+#[tactic(auto, using(crate::proofs::ReadLaws::send_laws))]
+pub fn read_unconnected_send(s: &[u8]) -> Result<SendRead, Refusal>
     ensures { paper_send result ≡ read_send s.now }
 {
-    match first_byte(s) {
-        Judged::Refused(e) => SendRead::Refused(e),
-        Judged::Kept => {
-            if s.len() < 4 {
-                return SendRead::Refused(Refusal::Short);
-            }
-            let m = u16_at(s, 2);
-            send_behind(s, m)
-        }
+    first_byte(s)?;
+    if s.len() < 4 {
+        return Err(Refusal::Short);
     }
+    let m = u16_at(s, 2);
+    send_behind(s, m)
 }

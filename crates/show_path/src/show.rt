@@ -1,44 +1,61 @@
-// Words, numbers and bytes on standard output.
+// A segment as text.
+use epath::Segment;
+use std::fmt;
 
-pub(crate) fn words(text: &[u8]) {
-    io::write_all(1, text);
+// A segment of a path that was read from these bytes.
+#[derive(Clone, Copy)]
+pub struct Shown<'a> {
+    pub segment: Segment,
+    pub path: &'a [u8],
 }
 
-// A word and a number behind it.
-pub(crate) fn named(word: &[u8], n: u64) {
-    io::write_all(1, word);
-    io::print_decimal(1, n);
-}
-
-// A byte in two digits, with capital letters, which io::print_hex does not give.
-fn hex(b: u8) {
-    io::write_all(
-        1,
-        &[hex_digits::hex_digit(b / 16), hex_digits::hex_digit(b)],
-    );
-}
-
-// Each byte in hex, with a space before it.
-pub(crate) fn bytes(s: &[u8]) {
-    for i in 0..s.len() {
-        words(b" ");
-        hex(wire_read::byte_at(s, i));
+impl<'a> Shown<'a> {
+    fn part(&self, start: u32, len: u32) -> &'a [u8] {
+        wire_read::part_of(self.path, start as usize, len as usize)
     }
 }
 
-// A byte as it is where it is printable ASCII and no backslash, else as \x and two digits.
-fn letter(b: u8) {
-    if 0x20 <= b && b <= 0x7E && b != 0x5C {
-        io::write_all(1, &[b]);
-        return;
+impl fmt::Display for Shown<'_> {
+    fn fmt<W: fmt::Write>(&self, f: &mut fmt::Formatter<W>) -> fmt::Result {
+        match self.segment {
+            Segment::Symbol(y) => write!(f, "symbol {}", Symbol(self.part(y.start, y.len))),
+            Segment::Class(v) => write!(f, "class {v}"),
+            Segment::Instance(v) => write!(f, "instance {v}"),
+            Segment::Attribute(v) => write!(f, "attribute {v}"),
+            Segment::Element(v) => write!(f, "element {v}"),
+            Segment::Port(q) => {
+                let link = Link(self.part(q.start, q.len));
+                write!(f, "port {} link{link}", q.port)
+            }
+        }
     }
-    words(b"\\x");
-    hex(b);
 }
 
-// The bytes of a symbol.
-pub(crate) fn text(s: &[u8]) {
-    for i in 0..s.len() {
-        letter(wire_read::byte_at(s, i));
+// The bytes of a symbol: each as it is where it is printable ASCII and no backslash, else as \x and two digits.
+#[derive(Clone, Copy)]
+struct Symbol<'a>(&'a [u8]);
+
+impl fmt::Display for Symbol<'_> {
+    fn fmt<W: fmt::Write>(&self, f: &mut fmt::Formatter<W>) -> fmt::Result {
+        for b in self.0 {
+            match *b {
+                b' '..=b'[' | b']'..=b'~' => write!(f, "{}", char::from(*b))?,
+                other => write!(f, "\\x{other:02X}")?,
+            }
+        }
+        Ok(())
+    }
+}
+
+// The bytes of a link, each with a space before it.
+#[derive(Clone, Copy)]
+struct Link<'a>(&'a [u8]);
+
+impl fmt::Display for Link<'_> {
+    fn fmt<W: fmt::Write>(&self, f: &mut fmt::Formatter<W>) -> fmt::Result {
+        for b in self.0 {
+            write!(f, " {b:02X}")?;
+        }
+        Ok(())
     }
 }

@@ -1,46 +1,31 @@
 // A driver: it holds the state, lends it with the buffer at each call, and gives what a frame left of a scrap again.
-use crate::make::plus;
-use frames::{Frame, FrameState, Stepped, Took};
+use frames::{Frame, FrameState};
+use std::{fmt, io};
 use wire::Refusal;
 
-// The state; how much of the stream was taken, and how much given; the frames, their bytes, a sum over them; and the calls.
-#[derive(Clone, Copy)]
+const PRIME: usize = 1000003;
+
+// How much of a stream was taken, and how much given; the frames, their bytes, a sum over them; the calls; and what is held in the end.
+#[derive(Clone, Copy, Default)]
 pub struct Run {
-    pub state: FrameState,
     pub at: usize,
     pub given: usize,
     pub frames: usize,
     pub bytes: usize,
     pub sum: usize,
     pub calls: usize,
+    pub held: usize,
 }
 
-const PRIME: usize = 1000003;
-
-pub(crate) fn start(state: FrameState) -> Run {
-    Run {
-        state: state,
-        at: 0,
-        given: 0,
-        frames: 0,
-        bytes: 0,
-        sum: 0,
-        calls: 0,
+impl fmt::Display for Run {
+    fn fmt<W: fmt::Write>(&self, f: &mut fmt::Formatter<W>) -> fmt::Result {
+        write!(
+            f,
+            "frames {} of {} bytes, calls {}",
+            self.frames, self.bytes, self.calls
+        )?;
+        write!(f, ", held {}", self.held)
     }
-}
-
-// The state is lent for a call, and comes back. The proof is a walk by hand; all that calls this needs none.
-fn lend(state: FrameState, buffer: &mut [u8], scrap: &[u8]) -> Stepped {
-    let mut s = state;
-    let a = frames::take_scrap(&mut s, buffer, scrap);
-    Stepped { state: s, took: a }
-}
-
-// The same for a reset.
-pub(crate) fn lend_reset(state: FrameState) -> FrameState {
-    let mut s = state;
-    frames::reset(&mut s);
-    s
 }
 
 fn mix(sum: usize, n: usize) -> usize {
@@ -48,112 +33,109 @@ fn mix(sum: usize, n: usize) -> usize {
 }
 
 fn sum_of(s: &[u8], from: usize) -> usize {
-    let mut sum = from;
-    for i in 0..s.len() {
-        sum = mix(sum, wire_read::byte_at(s, i) as usize);
-    }
-    sum
+    s.iter().fold(from, |sum, b| mix(sum, usize::from(*b)))
 }
 
-// Where the cut ends that the next byte stands in.
-fn cut_end(at: usize, given: usize, cut: usize, end: usize) -> usize {
-    if at < given {
-        return given;
-    }
-    if end <= at {
-        return end;
-    }
-    if end - at <= cut {
-        return end;
-    }
-    at + cut
-}
-
-fn tell_frame(r: Run, f: Frame, frame: &[u8]) {
-    crate::named(b"  a frame of ", f.length);
-    crate::named(b" bytes, sum ", sum_of(frame, 0));
-    crate::named(b": ends at ", r.bytes);
-    crate::named(b", out when ", r.given);
-    crate::named(b" were given, ", r.at);
-    io::write_all(1, b" taken\n");
-}
-
-fn tell_refusal(r: Run, e: Refusal) {
-    crate::named(b"  refused ", wire::refusal_number(e) as usize);
-    crate::named(b" when ", r.given);
-    crate::named(b" were given, held ", r.state.held);
-    io::write_all(1, b"\n");
-}
-
-// One call more, which left a state, took up to a place and was given up to another.
-fn called(r: Run, state: FrameState, at: usize, given: usize) -> Run {
-    Run {
-        state: state,
-        at: at,
-        given: given,
-        frames: r.frames,
-        bytes: r.bytes,
-        sum: r.sum,
-        calls: plus(r.calls, 1),
-    }
-}
-
-// One frame more, which lies at the front of the buffer.
-fn framed(r: Run, f: Frame, frame: &[u8]) -> Run {
-    let state = r.state;
-    Run {
-        state: state,
-        at: r.at,
-        given: r.given,
-        frames: plus(r.frames, 1),
-        bytes: plus(r.bytes, f.length),
-        sum: sum_of(frame, mix(r.sum, f.length)),
-        calls: r.calls,
-    }
-}
-
-// What a frame leaves is given again; a scrap that is refused is passed over.
-fn took(r: Run, t: Stepped, given: usize, buffer: &[u8], aloud: bool) -> Run {
-    let state = t.state;
-    let answer = t.took;
-    match answer {
-        Took::All => called(r, state, given, given),
-        Took::Whole(f) => {
-            let frame = wire_read::part_of(buffer, 0, f.length);
-            let w = framed(called(r, state, plus(r.at, f.taken), given), f, frame);
-            if aloud {
-                tell_frame(w, f, frame);
-            }
-            w
+// No place and no count comes near its type's end; the sums wrap so that nothing has to be shown of it.
+impl Run {
+    // Where the cut ends that the next byte stands in.
+    fn cut_end(&self, cut: usize, end: usize) -> usize {
+        if self.at < self.given {
+            return self.given;
         }
-        Took::Refused(e) => {
-            let w = called(r, state, given, given);
-            if aloud {
-                tell_refusal(w, e);
+        self.at.saturating_add(cut).min(end)
+    }
+
+    // A frame that lies at the front of the buffer: what it left of the scrap is given again.
+    fn framed(&mut self, f: Frame, frame: &[u8]) {
+        self.at = self.at.wrapping_add(f.taken);
+        self.frames = self.frames.wrapping_add(1);
+        self.bytes = self.bytes.wrapping_add(f.length);
+        self.sum = sum_of(frame, mix(self.sum, f.length));
+    }
+
+    fn tell_frame(&self, rt: &impl Print, f: Frame, frame: &[u8]) -> io::Result<()> {
+        print!(rt; "  a frame of {} bytes, sum {}", f.length, sum_of(frame, 0))?;
+        print!(rt;
+            ": ends at {}, out when {} were given",
+            self.bytes, self.given
+        )?;
+        println!(rt; ", {} taken", self.at)
+    }
+
+    fn tell_refusal(&self, rt: &impl Print, e: Refusal) -> io::Result<()> {
+        print!(rt;
+            "  refused {} when {} were given",
+            wire::refusal_number(e),
+            self.given
+        )?;
+        println!(rt; ", held {}", self.held)
+    }
+}
+
+#[derive(Drop)]
+pub struct Driver<'a> {
+    pub buffer: &'a mut [u8],
+    state: FrameState,
+}
+
+impl<'a> Driver<'a> {
+    pub(crate) fn new(buffer: &'a mut [u8]) -> Driver<'a> {
+        let state = frames::reset_state();
+        Driver { buffer, state }
+    }
+
+    pub(crate) fn reset(&mut self) {
+        frames::reset(&mut self.state);
+    }
+
+    // One call. A scrap that is refused is passed over. Aloud only prints: a closure that prints or does not is no plainer than the flag.
+    fn turn(
+        &mut self,
+        rt: &impl Print,
+        run: &mut Run,
+        scrap: &[u8],
+        aloud: bool,
+    ) -> io::Result<()> {
+        let took = frames::take_scrap(&mut self.state, self.buffer, scrap);
+        run.calls = run.calls.wrapping_add(1);
+        run.held = self.state.held;
+        match took {
+            Ok(Some(f)) => {
+                let frame = wire_read::part_of(self.buffer, 0, f.length);
+                run.framed(f, frame);
+                if aloud {
+                    run.tell_frame(rt, f, frame)?;
+                }
             }
-            w
+            Ok(None) => run.at = run.given,
+            Err(e) => {
+                run.at = run.given;
+                if aloud {
+                    run.tell_refusal(rt, e)?;
+                }
+            }
         }
+        Ok(())
     }
-}
 
-fn turn(r: Run, stream: &[u8], cut: usize, buffer: &mut [u8], aloud: bool) -> Run {
-    let given = cut_end(r.at, r.given, cut, stream.len());
-    if given <= r.at {
-        return r;
+    // Each call takes a byte at least, or passes its scrap over: so there are no more calls than bytes.
+    pub(crate) fn drive(
+        &mut self,
+        rt: &impl Print,
+        stream: &[u8],
+        cut: usize,
+        aloud: bool,
+    ) -> io::Result<Run> {
+        let mut run = Run::default();
+        for _ in 0..stream.len() {
+            run.given = run.cut_end(cut, stream.len());
+            let scrap = wire_read::part_of(stream, run.at, run.given.saturating_sub(run.at));
+            if scrap.is_empty() {
+                break;
+            }
+            self.turn(rt, &mut run, scrap, aloud)?;
+        }
+        Ok(run)
     }
-    let t = lend(
-        r.state,
-        buffer,
-        wire_read::part_of(stream, r.at, given - r.at),
-    );
-    took(r, t, given, buffer, aloud)
-}
-
-// Each call takes a byte at least, or passes its scrap over: so there are no more calls than bytes.
-pub(crate) fn drive(stream: &[u8], cut: usize, from: Run, buffer: &mut [u8], aloud: bool) -> Run {
-    let mut r = from;
-    for i in 0..stream.len() {
-        r = turn(r, stream, cut, buffer, aloud);
-    }
-    r
 }

@@ -1,20 +1,13 @@
--- The sizes' ends, and what a size that was answered says of the reply. Assumes nothing.
+-- The size's ends. Assumes nothing.
 use Prim.Native.Nat.{ℕ, ◌+◌, ◌%◌, ◌≤◌, ◌<◌}
-use mathlib.Core.Path.{◌≡◌, sym, ap, ◌∙◌}
+use mathlib.Core.Path.{◌≡◌}
 use mathlib.Core.List.{List}
 use lib.ListN.{length}
-use Rattle.wire.specs.Answers.{done, refused, paper_size, KeepsAll}
-use Rattle.wire.specs.declared.Wrote.{Wrote}
-use Rattle.wire.specs.declared.Wrote.TheVariants.{Size}
-use Rattle.wire.proofs.Rules.{rules, all_were}
+use Rattle.wire.specs.Answers.{done, refused}
+use Rattle.wire.proofs.Rules.{rules}
 use Rattle.connection.specs.Limits.{max_app_data}
-use Rattle.connection.specs.declared.ForwardOpenSuccess.{ForwardOpenSuccess}
-use Rattle.connection.specs.declared.ForwardCloseSuccess.{ForwardCloseSuccess}
-use Rattle.success_encode.specs.Replies.{open_reply_bytes, close_reply_bytes}
-use Rattle.success_encode.specs.Sizes.{open_success_base, close_success_base, app_rules, success_size}
-use Rattle.success_encode.proofs.Lengths.{open_reply_length, close_reply_length}
+use Rattle.success_encode.specs.Sizes.{success_size}
 
--- ---- forwards: what the code's ends answer
 module _ (base : ℕ) (app : List ℕ) where
   pub app_over : max_app_data < length app → refused 3 ≡ success_size base app
   unfolding success_size
@@ -30,24 +23,3 @@ module _ (base : ℕ) (app : List ℕ) where
     app_is g = search rules
 
 pub ruleset app_laws = (app_over, app_odd, app_is)
-
--- ---- backwards: a size that was answered
-module _ (r : Wrote) (size : ℕ) (h : r ≡ Size size) where
-  module _ (base : ℕ) (app : List ℕ) (is : paper_size r ≡ success_size base app) where
-    were : KeepsAll (app_rules app) × (done (base + length app) ≡ done size)
-    unfolding success_size
-    were = all_were (app_rules app) (done (base + length app)) size (sym is ∙ ap paper_size h)
-
-    pub app_small : length app ≤ max_app_data
-    app_small = were.0.0
-
-    sum : size ≡ base + length app
-    sum = let e : done (base + length app) ≡ done size = were.1 in cc
-
-  pub open_sized : (service : ℕ) (o : ForwardOpenSuccess) (app : List ℕ) → paper_size r ≡ success_size open_success_base app → size ≡ length (open_reply_bytes service o app)
-  open_sized service o app is = sum open_success_base app is ∙ sym (open_reply_length service o app)
-
-  pub close_sized : (service : ℕ) (c : ForwardCloseSuccess) (app : List ℕ) → paper_size r ≡ success_size close_success_base app → size ≡ length (close_reply_bytes service c app)
-  close_sized service c app is = sum close_success_base app is ∙ sym (close_reply_length service c app)
-
-pub ruleset sized_laws = (app_small, open_sized, close_sized)

@@ -2,17 +2,17 @@
 -- what answers a Forward Open (3-5.5.2) or a Forward Close (3-5.5.3). Assumes nothing: these are definitions.
 use Rattle.std.specs.Prelude.{ℕ, ◌/◌, List, [], ◌∷◌, ◌++◌, length}
 use Rattle.std.proofs.lemmas.List.Edits.{sets}
+use Rattle.std.specs.Prelude.{None}
 use Rattle.wire.specs.Records.{Field, byte, num, laid}
 use Rattle.connection.specs.declared.ForwardOpenSuccess.{ForwardOpenSuccess}
 use Rattle.connection.specs.declared.ForwardCloseSuccess.{ForwardCloseSuccess}
 use Rattle.connection_words.specs.Requests.{triad}
 use Rattle.statuses.specs.Layouts.{header_fields}
-use Rattle.statuses.specs.declared.ExtendedStatus.TheVariants.{Absent as NoExtended}
 use Rattle.statuses.specs.declared.Status.{Status}
 
 -- general status 0 and no extended word
 abbrev pub success : Status
-success = record { general = 0; extended = NoExtended }
+success = record { general = 0; extended = None }
 
 -- two numbers: from originator to target, and back
 abbrev pub both_ways : ℕ → ℕ → List Field
@@ -42,3 +42,13 @@ close_reply_bytes service c app = laid (header_fields service success ++ (close_
 -- ---- for the writers' own parts: what a list holds once fields are stored from a place on
 unfoldable pub with_fields : List ℕ → ℕ → List Field → List ℕ
 with_fields old at fs = sets old at (laid fs)
+
+-- the records' bytes, and a reply whose record has these bytes
+unfoldable pub open_record : ForwardOpenSuccess → List ℕ
+open_record o = laid (open_success_fields o)
+
+unfoldable pub close_record : ForwardCloseSuccess → List ℕ
+close_record c = laid (close_success_fields c)
+
+unfoldable pub success_bytes : ℕ → List ℕ → List ℕ → List ℕ
+success_bytes service fields app = laid (header_fields service success) ++ (fields ++ (laid (app_fields app) ++ app))

@@ -4,7 +4,7 @@
 
 mod close; // close.rt: a Forward Close that was served
 mod open; // open.rt: a Forward Open that was served
-mod success; // success.rt: application data
+mod success; // success.rt: what both have alike
 
 pub use close::write_forward_close_success;
 pub use open::write_forward_open_success;

@@ -9,7 +9,8 @@ ghost use Rattle.connection_words.specs.Requests.{triad};
 
 use wire_write::{put_u16, put_u32};
 
-// Stores the three from a place on; past the end nothing changes.
+// Stores the three from a place on; past the end nothing changes. They stay three arguments: the records name them in two ways, so that a struct of
+// them would be filled at each call, field by field.
 pub fn put_triad(out: &mut [u8], at: usize, serial: u16, vendor: u16, originator: u32)
     ensures { out.new ≡ sets out.old at (laid (triad serial vendor originator)) }
 {

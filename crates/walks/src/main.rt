@@ -5,126 +5,118 @@
 mod make; // make.rt: the items, and their lengths
 mod walk; // walk.rt: a walk over a body
 
-use wire::{Counted, Wrote};
+use std::io::{self, Read};
 
 // Items of the longest body that is asked for, and its bytes.
 const MOST: usize = 20000;
 
 const LONGEST: usize = 65535;
 
-fn named(word: &[u8], n: usize) {
-    io::write_all(1, word);
-    io::print_decimal(1, n as u64);
-}
-
-fn size_of(w: Wrote) -> usize {
-    match w {
-        Wrote::Size(n) => n,
-        Wrote::Refused(_) => 0,
-    }
-}
-
-fn count_of(c: Counted) -> usize {
-    match c {
-        Counted::Count(n) => n,
-        Counted::Refused(_) => 0,
-    }
-}
-
-fn same(a: &[u8], b: &[u8]) -> bool {
-    if a.len() != b.len() {
-        return false;
-    }
-    for i in 0..a.len() {
-        if wire_read::byte_at(a, i) != wire_read::byte_at(b, i) {
-            return false;
-        }
-    }
-    true
-}
+// Bytes of the input that are read.
+const INPUT: usize = 4096;
 
 // The body once, and a walk over it.
-fn read(s: &[u8], items: &[u8]) {
-    let n = count_of(body::read_body(s));
-    named(b": read ", n);
+fn read(rt: &impl Print, s: &[u8], items: &[u8]) -> io::Result<()> {
+    let n = body::read_body(s).unwrap_or(0);
     let w = walk::walk(s, n, items);
-    named(b", walked ", w.items);
-    named(b" of ", w.bytes);
-    named(b" bytes, each as written in ", w.same);
-    named(b", replies read ", w.replies);
+    print!(rt; ": read {n}, walked {} of {} bytes", w.items, w.bytes)?;
+    print!(rt;
+        ", each as written in {}, replies read {}",
+        w.same, w.replies
+    )
 }
 
 // The two halves, joined, against the whole.
-fn join(whole: &[u8], first: &[u8], second: &[u8]) {
-    let mut out = [0u8; LONGEST];
-    let n = size_of(body::join_bodies(first, second, &mut out));
-    named(b", joined ", n);
-    if same(wire_read::part_of(&out, 0, n), whole) {
-        io::write_all(1, b": the same\n");
-        return;
-    }
-    io::write_all(1, b": another\n");
+fn join(rt: &impl Print, whole: &[u8], first: &[u8], second: &[u8]) -> io::Result<()> {
+    let mut out = [0; LONGEST];
+    let n = body::join_bodies(first, second, &mut out).unwrap_or(0);
+    let is_same = wire_read::part_of(&out, 0, n) == whole;
+    println!(rt;
+        ", joined {n}: {}",
+        if is_same { "the same" } else { "another" }
+    )
+}
+
+// The body of these items, at the front of out; nothing where it is refused.
+fn body_of<'a>(items: &[u8], lengths: &[usize], out: &'a mut [u8]) -> &'a [u8] {
+    let n = body::write_body(items, lengths, &mut *out).unwrap_or(0);
+    wire_read::part_of(out, 0, n)
 }
 
 // A body of items of these lengths, and the same from its two halves.
-fn try_body(items: &[u8], lengths: &[usize]) {
-    let mut whole = [0u8; LONGEST];
-    let mut first = [0u8; LONGEST];
-    let mut second = [0u8; LONGEST];
-    let n = lengths.len();
-    let half = n / 2;
-    let size = size_of(body::write_body(items, lengths, &mut whole));
-    let a = size_of(body::write_body(items, &lengths[0..half], &mut first));
-    let rest = wire_read::part_of(items, half, items.len());
-    let b = size_of(body::write_body(rest, &lengths[half..n], &mut second));
-    let s = wire_read::part_of(&whole, 0, size);
-    named(b", bytes ", size);
-    read(s, items);
-    join(
-        s,
-        wire_read::part_of(&first, 0, a),
-        wire_read::part_of(&second, 0, b),
+fn try_body(rt: &impl Print, items: &[u8], lengths: &[usize]) -> io::Result<()> {
+    let mut whole = [0; LONGEST];
+    let mut first = [0; LONGEST];
+    let mut second = [0; LONGEST];
+    let half = lengths.len() / 2;
+    let (front, back) = lengths.split_at(half);
+    let s = body_of(items, lengths, &mut whole);
+    let a = body_of(items, front, &mut first);
+    // every item of the front half has one byte
+    let b = body_of(
+        wire_read::part_of(items, half, items.len()),
+        back,
+        &mut second,
     );
+    print!(rt; ", bytes {}", s.len())?;
+    read(rt, s, items)?;
+    join(rt, s, a, b)
 }
 
-// A body of n items that takes as large a part of the longest as n is of the most.
-fn run(n: usize, items: &mut [u8], lengths: &mut [usize]) {
-    let total = make::share(n);
-    if items.len() < total {
-        return;
-    }
-    if lengths.len() < n {
-        return;
-    }
-    if n == 0 {
-        return;
-    }
-    named(b"items ", n);
-    make::items(&mut items[0..total], n - 1);
-    make::lengths(&mut lengths[0..n], total);
-    try_body(&items[0..total], &lengths[0..n]);
+// Room for the items of a body, and for their lengths.
+#[derive(Drop)]
+struct Room<'a> {
+    items: &'a mut [u8],
+    lengths: &'a mut [usize],
 }
 
-// Digits make a number, and anything else ends it; the number so far is answered.
-fn step(n: usize, b: u8, items: &mut [u8], lengths: &mut [usize]) -> usize {
-    if 48 <= b && b <= 57 {
-        return n % 100000 * 10 + (b % 48) as usize;
+impl Room<'_> {
+    // A body of n items that takes as large a part of the longest as n is of the most. Of no items, or of more than there is room for, there is none.
+    fn run(&mut self, rt: &impl Print, n: usize) -> io::Result<()> {
+        let total = make::share(n);
+        let Some(items) = self.items.get_mut(..total) else {
+            return Ok(());
+        };
+        let Some(lengths) = self.lengths.get_mut(..n) else {
+            return Ok(());
+        };
+        if n == 0 {
+            return Ok(());
+        }
+        print!(rt; "items {n}")?;
+        make::items(items, n - 1);
+        make::lengths(lengths, total);
+        try_body(rt, items, lengths)
     }
-    run(n, items, lengths);
-    0
+
+    // Digits make a number, and anything else ends it.
+    fn numbers(&mut self, rt: &impl Print, text: &[u8]) -> io::Result<()> {
+        let mut n = 0;
+        for b in text {
+            if b.is_ascii_digit() {
+                n = n % 100000 * 10 + usize::from(*b % 48);
+            } else {
+                self.run(rt, n)?;
+                n = 0;
+            }
+        }
+        Ok(())
+    }
 }
 
-fn numbers(text: &[u8], items: &mut [u8], lengths: &mut [usize]) {
-    let mut n = 0;
-    for i in 0..text.len() {
-        n = step(n, wire_read::byte_at(text, i), items, lengths);
-    }
-}
-
-fn main() {
-    let mut room = io::buffer();
-    let n = io::read_full(0, &mut room);
-    let mut items = [0u8; LONGEST];
-    let mut lengths = [0usize; MOST];
-    numbers(&room[..n], &mut items, &mut lengths);
+// A read that fails ends the input, and the status tells of no output that can't be written.
+fn main(rt: HostRuntime) {
+    // four lines, as in the other programs that read one buffer: a crate for them would be no plainer
+    let mut text = [0; INPUT];
+    let mut rest = &mut text[..];
+    let _ = io::copy(&mut rt.stdin().take(4096), &mut rest);
+    let left = rest.len();
+    let mut room = Room {
+        items: &mut [0; LONGEST],
+        lengths: &mut [0; MOST],
+    };
+    let _ = room.numbers(
+        &rt,
+        wire_read::part_of(&text, 0, INPUT.saturating_sub(left)),
+    );
 }

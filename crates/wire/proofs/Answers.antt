@@ -6,14 +6,12 @@ use native.Mathlib.Nat.{zero-add, add_assoc}
 use native.Mathlib.Omega.{arith}
 use lib.ListN.{length, get_or}
 use lib.Seq.{sets}
+use Rattle.std.specs.declared.result.Result.{Result}
+use Rattle.std.specs.declared.result.Result.TheVariants.{Ok, Err}
 use Rattle.wire.specs.Refusals.{number}
-use Rattle.wire.specs.Answers.{Answer, done, refused, paper_size, paper_count, under, plus, with_room, written}
+use Rattle.wire.specs.Answers.{Answer, done, refused, paper, under, plus, with_room, written}
 use Rattle.wire.specs.declared.Refusal.{Refusal}
 use Rattle.wire.specs.declared.Refusal.TheVariants.{Short, Room, Limit, Code, Form, Words, Offset, Leftover, Depth, Envelope, Outside}
-use Rattle.wire.specs.declared.Wrote.{Wrote}
-use Rattle.wire.specs.declared.Wrote.TheVariants.{Size, Refused as NotWritten}
-use Rattle.wire.specs.declared.Counted.{Counted}
-use Rattle.wire.specs.declared.Counted.TheVariants.{Count, Refused as NotCounted}
 use Rattle.wire.proofs.Rules.{rules, never, done_same, all_keep, all_were}
 use Rattle.wire.proofs.Stores.{sets_overlay}
 
@@ -33,16 +31,13 @@ number_back = elim [ Short ↦ refl | Room ↦ refl | Limit ↦ refl | Code ↦ 
 pub number_one : (a b : Refusal) → number a ≡ number b → a ≡ b
 number_one = one_by number refusal_of number_back
 
--- an answer of the code, from its form on paper: by what it makes of what was asked for, and by its refusal
-abbrev pub from_paper : {A R : Type 0} → (A → R) → (Refusal → R) → Answer A → R
-from_paper found not (done x) = found x
-from_paper found not (refused k) = not (refusal_of k)
+-- an answer of the code, from its form on paper
+abbrev pub from_paper : {A : Type 0} → Answer A → Result A Refusal
+from_paper (done x) = Ok x
+from_paper (refused k) = Err (refusal_of k)
 
-pub size_one : (a b : Wrote) → paper_size a ≡ paper_size b → a ≡ b
-size_one = one_by paper_size (from_paper Size NotWritten) (elim [ Size n ↦ refl | NotWritten e ↦ ap NotWritten (number_back e) ])
-
-pub count_one : (a b : Counted) → paper_count a ≡ paper_count b → a ≡ b
-count_one = one_by paper_count (from_paper Count NotCounted) (elim [ Count n ↦ refl | NotCounted e ↦ ap NotCounted (number_back e) ])
+pub answer_one : {A : Type 0} (a b : Result A Refusal) → paper a ≡ paper b → a ≡ b
+answer_one = one_by paper from_paper (elim [ Ok x ↦ refl | Err e ↦ ap Err (number_back e) ])
 
 -- ---- sums
 
@@ -80,19 +75,19 @@ room_was (done m) room n h =
 room_was (refused k) room n h = never h
 
 -- ---- the three ends of a writer that sized its bytes as y: what it answers, and what the lent output then holds
-module _ (y : Answer ℕ) (bytes old : List ℕ) (r : Wrote) (is : paper_size r ≡ y) where
+module _ (y : Answer ℕ) (bytes old : List ℕ) (r : Result ℕ Refusal) (is : paper r ≡ y) where
   after : (w : Answer ℕ) {new : List ℕ} → w ≡ with_room y (length old) → new ≡ written w bytes old → new ≡ written (with_room y (length old)) bytes old
   after w e b = b ∙ ap (λ (x : Answer ℕ). written x bytes old) e
 
-  pub refused_answer : (e : Refusal) → r ≡ NotWritten e → refused (number e) ≡ with_room y (length old)
-  refused_answer e h = ap (λ (x : Answer ℕ). with_room x (length old)) (sym (ap paper_size h) ∙ is)
+  pub refused_answer : (e : Refusal) → r ≡ Err e → refused (number e) ≡ with_room y (length old)
+  refused_answer e h = ap (λ (x : Answer ℕ). with_room x (length old)) (sym (ap paper h) ∙ is)
 
-  pub refused_bytes : (e : Refusal) → r ≡ NotWritten e → old ≡ written (with_room y (length old)) bytes old
+  pub refused_bytes : (e : Refusal) → r ≡ Err e → old ≡ written (with_room y (length old)) bytes old
   refused_bytes e h = after (refused (number e)) (refused_answer e h) refl
 
-  module _ (n : ℕ) (h : r ≡ Size n) where
+  module _ (n : ℕ) (h : r ≡ Ok n) where
     fits : done n ≡ y
-    fits = sym (ap paper_size h) ∙ is
+    fits = sym (ap paper h) ∙ is
 
     pub full_answer : length old < n → refused 2 ≡ with_room y (length old)
     full_answer l =

@@ -14,8 +14,6 @@ module _ {A : Type 0} (n a : ℕ) (x y z : A) where
   pub pick_past : (n ≡ a → ⊥) → z ≡ y → z ≡ pick (eqb n a) x y
   pick_past h e = simp (ne_eqb n a h) e
 
-pub ruleset choice_laws = (pick_here, pick_past)
-
 -- ---- two lists that are the same
 
 pub same_true : (a b : List ℕ) → same_bytes a b ≡ true → a ≡ b

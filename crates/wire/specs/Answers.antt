@@ -1,25 +1,21 @@
 -- Answers, and rules in the order in which they are judged. Assumes nothing: these are definitions.
 use Rattle.std.specs.Prelude.{ℕ, ◌+◌, ◌≤◌, ◌<◌, ◌≡◌, List, [], ◌∷◌, Bool, true, false, not, length, ltb, eqb}
 use Rattle.std.proofs.lemmas.List.Edits.{sets}
+use Rattle.std.specs.declared.result.Result.{Result}
+use Rattle.std.specs.declared.result.Result.TheVariants.{Ok, Err}
 use Rattle.wire.specs.Refusals.{number}
+use Rattle.wire.specs.declared.Refusal.{Refusal}
 use Rattle.wire.specs.Parts.{overlay}
-use Rattle.wire.specs.declared.Wrote.{Wrote}
-use Rattle.wire.specs.declared.Wrote.TheVariants.{Size, Refused as NotWritten}
-use Rattle.wire.specs.declared.Counted.{Counted}
-use Rattle.wire.specs.declared.Counted.TheVariants.{Count, Refused as NotCounted}
 
 -- what was asked for, or document 01's number of a refusal
 pub data Answer (A : Type 0) : Type 0 where
   done : A → Answer A
   refused : ℕ → Answer A
 
-abbrev pub paper_size : Wrote → Answer ℕ
-paper_size (Size n) = done n
-paper_size (NotWritten e) = refused (number e)
-
-abbrev pub paper_count : Counted → Answer ℕ
-paper_count (Count n) = done n
-paper_count (NotCounted e) = refused (number e)
+-- what a function answers, with its refusal's number
+abbrev pub paper : {A : Type 0} → Result A Refusal → Answer A
+paper (Ok x) = done x
+paper (Err e) = refused (number e)
 
 -- what follows is asked only where there was no refusal
 abbrev pub and_then : {A B : Type 0} → Answer A → (A → Answer B) → Answer B

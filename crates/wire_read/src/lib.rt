@@ -9,47 +9,41 @@ ghost use Rattle.wire.specs.Parts.{part};
 pub fn byte_at(s: &[u8], at: usize) -> u8
     ensures { result ≡ get_or s.now at 0 }
 {
-    if at < s.len() {
-        return s[at];
-    }
-    0
+    s.get(at).copied().unwrap_or(0)
 }
 
 // The 16-bit number at a place, low byte first.
+#[tactic(auto, using(wire::proofs::Numbers::number_laws))]
 pub fn u16_at(s: &[u8], at: usize) -> u16
     ensures { result ≡ value_of 2 (drop at s.now) }
 {
     if s.len() <= at {
         return 0;
     }
-    let a = byte_at(s, at);
-    let b = byte_at(s, at + 1);
-    a as u16 + 256 * (b as u16)
+    u16::from_le_bytes([byte_at(s, at), byte_at(s, at + 1)])
 }
 
-// The 32-bit number at a place, low byte first.
+// The 32-bit number at a place, low byte first. (Not one generic with the above: std has no trait of `from_le_bytes`, and each is one expression.)
+#[tactic(auto, using(wire::proofs::Numbers::number_laws))]
 pub fn u32_at(s: &[u8], at: usize) -> u32
     ensures { result ≡ value_of 4 (drop at s.now) }
 {
     if s.len() <= at {
         return 0;
     }
-    let a = u16_at(s, at);
-    let b = u16_at(s, at + 2);
-    a as u32 + 65536 * (b as u32)
+    u32::from_le_bytes([
+        byte_at(s, at),
+        byte_at(s, at + 1),
+        byte_at(s, at + 2),
+        byte_at(s, at + 3),
+    ])
 }
 
 // The part of a slice from a start on, so many bytes of it as there are.
 pub fn part_of<'a>(s: &'a [u8], start: usize, len: usize) -> &'a [u8]
     ensures { result.now ≡ part s.now start len }
 {
-    let n = s.len();
-    if n <= start {
-        return &s[n..n];
-    }
-    if n - start <= len {
-        return &s[start..n];
-    }
-    let end = start + len;
-    &s[start..end]
+    let from = start.min(s.len());
+    let to = from + len.min(s.len() - from);
+    &s[from..to]
 }

@@ -1,11 +1,6 @@
 -- `body_encode::put_offsets` meets its contract. Assumes nothing.
 use Rattle.body_encode.proofs.WriteLaws.{Placing}
-use Prim.Native.Nat.{◌-◌}
-use lib.ListN.{length}
 use Rattle.body_encode.proofs.put_offsets.Given as goal
 
 abbrev pub invariant-loop-i : goal.invariant-loop-i
 invariant-loop-i l = Placing l.lengths l.initial.out l.out l.at l.i
-
-abbrev pub decreases-loop-i : goal.decreases-loop-i
-decreases-loop-i l = length l.lengths - l.i

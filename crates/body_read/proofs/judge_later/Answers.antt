@@ -13,8 +13,5 @@ returns-then-offset-last c = search (reading_laws, rules) fits 5000
 pub returns-then-s-offset : goal.returns-then-s-offset
 returns-then-s-offset c = search (reading_laws, rules) fits 5000
 
-pub loop-k-preserved : goal.loop-k-preserved
-loop-k-preserved c = search (reading_laws, rules) fits 5000
-
 pub returns : goal.returns
 returns c = search (reading_laws, rules) fits 5000

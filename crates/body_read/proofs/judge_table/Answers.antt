@@ -4,14 +4,5 @@ use Rattle.body_read.proofs.ReadLaws.{table_laws}
 use Rattle.std.proofs.Common.{rules}
 use Rattle.body_read.proofs.judge_table.Goals as goal
 
-pub returns-then-s-lt4 : goal.returns-then-s-lt4
-returns-then-s-lt4 c = search (table_laws, rules) fits 5000
-
-pub returns-then-first-n : goal.returns-then-first-n
-returns-then-first-n c = search (table_laws, rules) fits 5000
-
 pub returns-then-first-s : goal.returns-then-first-s
 returns-then-first-s c = search (table_laws, rules) fits 5000
-
-pub returns : goal.returns
-returns c = search (table_laws, rules) fits 5000

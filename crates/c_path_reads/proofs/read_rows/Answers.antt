@@ -4,17 +4,8 @@ use Rattle.c_path_reads.proofs.ReadLaws.{reading_laws}
 use Rattle.std.proofs.Common.{rules}
 use Rattle.c_path_reads.proofs.read_rows.Goals as goal
 
-pub loop-at-init : goal.loop-at-init
-loop-at-init c = search (reading_laws, rules) fits 5000
-
 pub read_row-at-requires : goal.read_row-at-requires
 read_row-at-requires c = search (reading_laws, rules) fits 5000
-
-pub loop-at-smaller : goal.loop-at-smaller
-loop-at-smaller c = search (reading_laws, rules) fits 5000
-
-pub loop-at-preserved : goal.loop-at-preserved
-loop-at-preserved c = search (reading_laws, rules) fits 5000
 
 pub returns : goal.returns
 returns c = search (reading_laws, rules) fits 5000

@@ -1,8 +1,6 @@
 -- `c_reply_walk::put_replies` meets its contract. Assumes nothing.
---: * = search (turn_laws, rules) fits 5000
-use Rattle.c_reply_walk.proofs.Laws.{turn_laws}
-use Rattle.std.proofs.Common.{rules}
+use Rattle.c_reply_walk.proofs.Laws.{turn_goes}
 use Rattle.c_reply_walk.proofs.put_replies.Goals as goal
 
 pub loop-k-preserved : goal.loop-k-preserved
-loop-k-preserved c = search (turn_laws, rules) fits 5000
+loop-k-preserved c = turn_goes _ _ _ _ _ c.loop-k.invariant _ _ _ c.loop-k-test.true c.walk_reply.ensures c.row_of.ensures c.put_row.ensures

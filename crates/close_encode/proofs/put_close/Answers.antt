@@ -5,11 +5,11 @@ use Rattle.close_encode.proofs.WriteLaws.{close_put}
 use Rattle.std.proofs.Common.{rules}
 use Rattle.close_encode.proofs.put_close.Goals as goal
 
+pub unwrap-n-requires : goal.unwrap-n-requires
+unwrap-n-requires c = search (put_laws, close_put, rules) fits 5000
+
 pub overflow_cast-n : goal.overflow_cast-n
 overflow_cast-n c = search (put_laws, close_put, rules) fits 5000
 
-pub returns-in-Refused : goal.returns-in-Refused
-returns-in-Refused c = search (put_laws, close_put, rules) fits 5000
-
-pub returns-in-Size : goal.returns-in-Size
-returns-in-Size c = search (put_laws, close_put, rules) fits 5000
+pub returns : goal.returns
+returns c = search (put_laws, close_put, rules) fits 5000

@@ -1,10 +1,6 @@
 -- `path_sizes::path_size` meets its contract. Assumes nothing.
-use Prim.Native.Nat.{◌-◌}
 use Rattle.epath_sizes.proofs.PathLaws.{Summing}
 use Rattle.path_sizes.proofs.path_size.Given as goal
 
-abbrev pub invariant-loop-i : goal.invariant-loop-i
-invariant-loop-i l = Summing l.pool l.p l.total l.i
-
-abbrev pub decreases-loop-i : goal.decreases-loop-i
-decreases-loop-i l = l.count - l.i
+abbrev pub invariant-loop-slot : goal.invariant-loop-slot
+invariant-loop-slot l = Summing l.pool l.fn.p l.total l.slot-index

@@ -1,17 +1,14 @@
 -- `route::route_size` meets its contract. Assumes nothing.
---: * = search (route_laws, rules) fits 5000
+--: * = search (route_laws, c.in_ok-n.was, rules) fits 5000
 use Rattle.route.proofs.RouteLaws.{route_laws}
 use Rattle.std.proofs.Common.{rules}
 use Rattle.route.proofs.route_size.Goals as goal
 
 pub returns-then-n-gt-MAX_PATH : goal.returns-then-n-gt-MAX_PATH
-returns-then-n-gt-MAX_PATH c = search (route_laws, rules) fits 5000
+returns-then-n-gt-MAX_PATH c = search (route_laws, c.in_ok-n.was, rules) fits 5000
 
 pub returns-then-n-ne0 : goal.returns-then-n-ne0
-returns-then-n-ne0 c = search (route_laws, rules) fits 5000
+returns-then-n-ne0 c = search (route_laws, c.in_ok-n.was, rules) fits 5000
 
-pub returns-in-Refused : goal.returns-in-Refused
-returns-in-Refused c = search (route_laws, rules) fits 5000
-
-pub returns-else-n-ne0 : goal.returns-else-n-ne0
-returns-else-n-ne0 c = search (route_laws, rules) fits 5000
+pub returns : goal.returns
+returns c = search (route_laws, c.in_ok-n.was, rules) fits 5000

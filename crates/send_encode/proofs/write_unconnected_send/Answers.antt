@@ -1,21 +1,21 @@
 -- `send_encode::write_unconnected_send` meets its contract. Assumes nothing.
---: * = search (writer_laws, ready_laws, length_laws, rules) fits 5000
+--: * = search (writer_laws, ready_laws, length_laws, c.in_ok-size.was, rules) fits 5000
 use Rattle.wire.proofs.Answers.{writer_laws}
 use Rattle.request_sizes.proofs.SizeLaws.{ready_laws, length_laws}
 use Rattle.std.proofs.Common.{rules}
 use Rattle.send_encode.proofs.write_unconnected_send.Goals as goal
 
 pub returns-then-out-size-clause-answer : goal.returns-then-out-size-clause-answer
-returns-then-out-size-clause-answer c = search (writer_laws, ready_laws, length_laws, rules) fits 5000
+returns-then-out-size-clause-answer c = search (writer_laws, ready_laws, length_laws, c.in_ok-size.was, rules) fits 5000
 
 pub returns-then-out-size-clause-bytes : goal.returns-then-out-size-clause-bytes
-returns-then-out-size-clause-bytes c = search (writer_laws, ready_laws, length_laws, rules) fits 5000
+returns-then-out-size-clause-bytes c = search (writer_laws, ready_laws, length_laws, c.in_ok-size.was, rules) fits 5000
 
 pub put_send-requires : goal.put_send-requires
-put_send-requires c = search (writer_laws, ready_laws, length_laws, rules) fits 5000
+put_send-requires c = search (writer_laws, ready_laws, length_laws, c.in_ok-size.was, rules) fits 5000
 
-pub returns-else-out-size-clause-answer : goal.returns-else-out-size-clause-answer
-returns-else-out-size-clause-answer c = search (writer_laws, ready_laws, length_laws, rules) fits 5000
+pub returns-clause-answer : goal.returns-clause-answer
+returns-clause-answer c = search (writer_laws, ready_laws, length_laws, c.in_ok-size.was, rules) fits 5000
 
-pub returns-else-out-size-clause-bytes : goal.returns-else-out-size-clause-bytes
-returns-else-out-size-clause-bytes c = search (writer_laws, ready_laws, length_laws, rules) fits 5000
+pub returns-clause-bytes : goal.returns-clause-bytes
+returns-clause-bytes c = search (writer_laws, ready_laws, length_laws, c.in_ok-size.was, rules) fits 5000

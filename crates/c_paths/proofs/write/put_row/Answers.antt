@@ -7,8 +7,8 @@ use Rattle.c_paths.proofs.write.put_row.Goals as goal
 pub segment_of-requires : goal.segment_of-requires
 segment_of-requires c = search (ready_laws, rules) fits 5000
 
-pub returns-in-Size : goal.returns-in-Size
-returns-in-Size c = search (ready_laws, rules) fits 5000
+pub unreachable-requires : goal.unreachable-requires
+unreachable-requires c = search (ready_laws, rules) fits 5000
 
-pub returns-in-Refused : goal.returns-in-Refused
-returns-in-Refused c = search (ready_laws, rules) fits 5000
+pub returns : goal.returns
+returns c = search (ready_laws, rules) fits 5000

@@ -7,8 +7,8 @@ use Rattle.c_paths.proofs.write.put_rows.Goals as goal
 pub loop-i-init : goal.loop-i-init
 loop-i-init c = search (filing_laws, rules) fits 5000
 
-pub put_row-n-requires : goal.put_row-n-requires
-put_row-n-requires c = search (filing_laws, rules) fits 5000
+pub put_row-at-requires : goal.put_row-at-requires
+put_row-at-requires c = search (filing_laws, rules) fits 5000
 
 pub overflow_add-at : goal.overflow_add-at
 overflow_add-at c = search (filing_laws, rules) fits 5000

@@ -1,10 +1,6 @@
 -- `c_paths::write::rows_size` meets its contract. Assumes nothing.
-use Prim.Native.Nat.{◌-◌}
 use Rattle.c_paths.proofs.PathLaws.{Summing}
 use Rattle.c_paths.proofs.write.rows_size.Given as goal
 
 abbrev pub invariant-loop-i : goal.invariant-loop-i
 invariant-loop-i l = Summing l.pool l.segments l.total l.i
-
-abbrev pub decreases-loop-i : goal.decreases-loop-i
-decreases-loop-i l = l.count - l.i

@@ -1,14 +1,8 @@
 -- `epath_encode::encode::encode_path` meets its contract. Assumes nothing.
 --: * = search (filing_laws, rules) fits 5000
-use Rattle.epath_encode.proofs.FileLaws.{filing_laws}
 use Rattle.std.proofs.Common.{rules}
+use Rattle.epath_encode.proofs.FileLaws.{filing_laws}
 use Rattle.epath_encode.proofs.encode.encode_path.Goals as goal
 
-pub encode_segment-n-requires : goal.encode_segment-n-requires
-encode_segment-n-requires c = search (filing_laws, rules) fits 5000
-
-pub overflow_add-at : goal.overflow_add-at
-overflow_add-at c = search (filing_laws, rules) fits 5000
-
-pub loop-k-preserved : goal.loop-k-preserved
-loop-k-preserved c = search (filing_laws, rules) fits 5000
+pub loop-slot-preserved : goal.loop-slot-preserved
+loop-slot-preserved c = search (filing_laws, rules) fits 5000

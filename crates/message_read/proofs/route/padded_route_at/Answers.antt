@@ -1,23 +1,16 @@
 -- `message_read::route::padded_route_at` meets its contract. Assumes nothing.
---: * = search (path_laws, rules) fits 5000
-use Rattle.message_read.proofs.ReadLaws.{path_laws}
-use Rattle.std.proofs.Common.{rules}
+--: * = search (path_laws, c.in_ok-len.was, rules) fits 5000
+use Rattle.message_read.proofs.ReadLaws.{path_laws, padded_short}
+use Rattle.std.proofs.Common.{rules, ◌≡◌, ◌+◌, ◌≤◌, ◌<◌, length, get_or}
 use Rattle.message_read.proofs.route.padded_route_at.Goals as goal
 
-pub overflow_add-at : goal.overflow_add-at
-overflow_add-at c = search (path_laws, rules) fits 5000
-
-pub returns-then-s-at : goal.returns-then-s-at
-returns-then-s-at c = search (path_laws, rules) fits 5000
+pub returns-in_default : goal.returns-in_default
+returns-in_default c =
+    let f : length c.args.s.now ≤ c.args.at + 1 = search rules in
+    padded_short c.args.s.now c.args.at c.path_size.result c.path_size.ensures c.in_ok-len.len c.in_ok-len.was f
 
 pub returns-then-reserved-ne0 : goal.returns-then-reserved-ne0
-returns-then-reserved-ne0 c = search (path_laws, rules) fits 5000
-
-pub last_path-requires : goal.last_path-requires
-last_path-requires c = search (path_laws, rules) fits 5000
-
-pub returns-in-Refused : goal.returns-in-Refused
-returns-in-Refused c = search (path_laws, rules) fits 5000
-
-pub returns-else-reserved-ne0 : goal.returns-else-reserved-ne0
-returns-else-reserved-ne0 c = search (path_laws, rules) fits 5000
+returns-then-reserved-ne0 c =
+    let f : c.in-Some.field-0.now ≡ get_or c.args.s.now (c.args.at + 1) 0 = search rules in
+    let g : c.args.at + 1 < length c.args.s.now = search rules in
+    search (path_laws, c.in_ok-len.was, rules) fits 5000

@@ -12,8 +12,5 @@ decreases-walk_message l = 2 * l.left
 abbrev pub decreases-walk_send : goal.decreases-walk_send
 decreases-walk_send l = 2 * l.left + 1
 
-abbrev pub invariant-walk_body-loop-rest : goal.invariant-walk_body-loop-rest
-invariant-walk_body-loop-rest l = Turn l.s l.left l.n l.rest l.at l.next l.initial.rows l.rows
-
-abbrev pub decreases-walk_body-loop-rest : goal.decreases-walk_body-loop-rest
-decreases-walk_body-loop-rest l = l.rest
+abbrev pub invariant-walk_body-loop-k : goal.invariant-walk_body-loop-k
+invariant-walk_body-loop-k l = Turn l.s l.left l.n l.k l.at l.next l.initial.rows l.rows
