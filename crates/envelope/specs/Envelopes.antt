@@ -26,11 +26,11 @@ abbrev pub unconnected_data : ℕ
 unconnected_data = 0xB2
 
 -- the same as the code names them
-abbrev pub type_number : ItemType → ℕ
-type_number NullAddress = null_address
-type_number ConnectedAddress = connected_address
-type_number ConnectedData = connected_data
-type_number UnconnectedData = unconnected_data
+abbrev pub item_number : ItemType → ℕ
+item_number NullAddress = null_address
+item_number ConnectedAddress = connected_address
+item_number ConnectedData = connected_data
+item_number UnconnectedData = unconnected_data
 
 -- what an envelope holds: start and length of its data, and of connected data the count before it
 pub data Held : Type 0 where

@@ -4,12 +4,12 @@
 
 ghost use Rattle.std.specs.Prelude.{◌≡◌, ◌≤◌, IfOk};
 ghost use Rattle.wire.specs.Answers.{paper};
-ghost use Rattle.envelope.specs.Envelopes.{type_number, item_length, data_at, unconnected_at, connected_at, read_envelope, paper_envelope};
+ghost use Rattle.envelope.specs.Envelopes.{item_number, item_length, data_at, unconnected_at, connected_at, read_envelope, paper_envelope};
 
 use wire::Refusal;
 use wire_read::u16_at;
 
-// An item's type, with its number on the wire; its twin is `type_number`.
+// An item's type, with its number on the wire; its twin is `item_number`.
 #[derive(Clone, Copy)]
 enum ItemType {
     NullAddress = 0,
@@ -36,7 +36,7 @@ struct Data {
 #[tactic(auto, using(crate::proofs::ReadLaws::item_laws))]
 fn item_at(kind: ItemType, s: &[u8], at: usize) -> Result<u16, Refusal>
     requires { at ≤ 70000 }
-    ensures { paper result ≡ item_length (type_number kind) s.now at }
+    ensures { paper result ≡ item_length (item_number kind) s.now at }
 {
     if s.len() < at + 2 {
         return Err(Refusal::Short);
@@ -57,7 +57,7 @@ fn item_at(kind: ItemType, s: &[u8], at: usize) -> Result<u16, Refusal>
 // The data behind an address of a type.
 #[tactic(auto, using(crate::proofs::ReadLaws::two_laws))]
 fn data_at(address: ItemType, kind: ItemType, s: &[u8]) -> Result<Data, Refusal>
-    ensures data { paper result ≡ data_at (type_number address) (type_number kind) s.now }
+    ensures data { paper result ≡ data_at (item_number address) (item_number kind) s.now }
     ensures near { IfOk result (λ d. (d.start ≤ 65545) × (d.len ≤ 65535)) }
 {
     let before = usize::from(item_at(address, s, 2)?);
