@@ -1,15 +1,17 @@
 -- Laws of answers as numbers, and of filled runs. Assumes nothing.
-use Prim.Native.Nat.{ℕ, ◌≤◌, ◌<◌}
+use Prim.Native.Nat.{ℕ, ◌+◌, ◌≤◌, ◌<◌}
 use mathlib.Core.Path.{◌≡◌, refl, sym, ap, ◌∙◌, subst}
 use mathlib.Core.List.{List, ◌++◌}
+use native.Mathlib.Nat.{zero-add}
 use native.Mathlib.Omega.{arith}
-use lib.ListN.{length, drop}
+use lib.ListN.{length, drop, get_or, set}
 use Rattle.std.specs.Prelude.{Result, Ok, Err}
 use Rattle.wire.specs.Refusals.{number}
 use Rattle.wire.specs.Parts.{overlay}
 use Rattle.wire.specs.Answers.{Answer, done, refused, paper, with_room, written}
 use Rattle.wire.proofs.Rules.{rules}
 use Rattle.wire.proofs.Answers.{room_kept, room_was}
+use Rattle.wire.proofs.Stores.{Copying, copy_first, copy_more, copy_ends, run_whole}
 use Rattle.c_answers.specs.Codes.{two_to63, code, run_answer, run_left, run_of, Told}
 use Rattle.wire.specs.declared.Refusal.{Refusal}
 use Rattle.wire.specs.declared.Refusal.TheVariants.{Short, Room, Limit, Code, Form, Words, Offset, Leftover, Depth, Envelope, Outside}
@@ -37,6 +39,13 @@ pub code_done : (n : ℕ) (y : Answer ℕ) → done n ≡ y → n ≡ code y
 code_done n y h = ap code h
 
 pub ruleset told_laws = (code_told, code_done)
+
+-- ---- the loop that fills a run
+pub copy_next : (old src : List ℕ) (n : ℕ) (out : List ℕ) (i : ℕ) → Copying old 0 src n out i → i < n → n ≤ length src
+    → Copying old 0 src n (set out i (get_or src i 0)) (i + 1)
+copy_next old src n out i w h g = subst (λ (k : ℕ). Copying old 0 src n (set out k (get_or src i 0)) (i + 1)) (zero-add i) (copy_more old 0 src n out i w h g)
+
+pub ruleset front_laws = (copy_next, copy_first, copy_ends, run_whole)
 
 -- ---- a run is filled where it has room
 module _ (src old : List ℕ) where

@@ -1,16 +1,15 @@
 -- Each end of the writer's parts, as a law with plain conditions. Assumes nothing.
-use Prim.Native.Nat.{ℕ, ◌+◌, ◌-◌, ◌%◌, ◌≤◌, ◌<◌}
+use Prim.Native.Nat.{ℕ, ◌+◌, ◌%◌, ◌≤◌, ◌<◌}
 use mathlib.Core.Path.{◌≡◌, refl, sym, ap, ◌∙◌, subst}
 use mathlib.Core.List.{List, [], ◌∷◌, ◌++◌, append-nil, append_assoc}
-use native.Mathlib.Nat.{zero-add, add-sub_cancel_left}
+use native.Mathlib.Nat.{zero-add}
 use native.Mathlib.Omega.{arith}
-use lib.ListN.{length, set, take, drop, length-append}
-use lib.Seq.{sets, sets-eq, length-sets, drop-drop}
-use borrow.Rule.Slice.PartMut.{put_mid}
+use lib.ListN.{length, set, take, length-append}
+use lib.Seq.{sets, length-sets}
 use Rattle.std.specs.Prelude.{Ok}
 use Rattle.wire.specs.Answers.{Answer, done, refused, with_room, written, Put, PutAt}
 use Rattle.wire.proofs.Answers.{full_answer, full_bytes, written_answer, written_bytes}
-use Rattle.wire.proofs.Stores.{sets_append}
+use Rattle.wire.proofs.Stores.{sets_append, run_whole, copy_laws}
 use Rattle.epath_sizes.specs.Limits.{symbol_code}
 use Rattle.epath_sizes.specs.Segments.{symbol, port, pad, padded, port_head, encode_seg}
 use Rattle.epath_sizes.specs.Lists.{meaning}
@@ -20,20 +19,10 @@ use Rattle.epath_sizes.proofs.SizeLaws.{head_most, length_padded, sized}
 
 -- ---- a run
 module _ (old src : List ℕ) (at : ℕ) where
-  pub run_put : (new : List ℕ) → new ≡ src → at + length src ≤ length old → PutAt at src old (at + length src) (put_mid at (at + length src - at) old new)
-  run_put new e r =
-      let k : at + length src - at ≡ length src = add-sub_cancel_left at (length src) in
-      record {
-        ends = refl;
-        stored =
-            ap (λ (j : ℕ). take at old ++ (new ++ drop j (drop at old))) k
-            ∙ ap (λ (z : List ℕ). take at old ++ (z ++ drop (length src) (drop at old))) e
-            ∙ ap (λ (z : List ℕ). take at old ++ (src ++ z)) (drop-drop (length src) at old)
-            ∙ sym (append_assoc (take at old) src (drop (at + length src) old))
-            ∙ sym (sets-eq src old at r);
-      }
+  pub run_put : (new : List ℕ) → new ≡ sets old at (take (length src) src) → PutAt at src old (at + length src) new
+  run_put new e = record { ends = refl; stored = run_whole old at src new e }
 
-pub ruleset run_laws = (run_put)
+pub ruleset run_laws = (copy_laws, run_put)
 
 -- ---- bytes with a pad
 module _ (old mid src : List ℕ) (at n : ℕ) (p : PutAt at src old n mid) where

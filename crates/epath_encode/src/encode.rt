@@ -14,15 +14,17 @@ use wire::Refusal;
 
 // ---- the writer's parts: each stores where there is room for all of it, at the front of out or from index at on, and says where it ends
 
-// Stores src as it is.
+// Stores src as it is. Not by copy_from_slice: the valve group's archive would want memmove from outside.
 #[tactic(auto, using(crate::proofs::WriteLaws::run_laws))]
 fn put_run(out: &mut [u8], at: usize, src: &[u8]) -> usize
     requires { at + length src.now ≤ length out.old }
     ensures { PutAt at src.now out.old result out.new }
 {
-    let end = at + src.len();
-    out[at..end].copy_from_slice(src);
-    end
+    let n = src.len();
+    for i in 0..n {
+        out[at + i] = src[i];
+    }
+    at + n
 }
 
 // Stores src, with a zero where the end would be odd.
@@ -114,7 +116,9 @@ fn encode_path(p: Path, pool: &[u8], out: &mut [u8])
     ensures { out.new ≡ sets out.old 0 (encode (segs_of pool.now p)) }
 {
     let mut at = 0;
-    for slot in &p.slots[..p.count] {
+    // by place: lent as a slice the whole list would be copied first
+    for k in 0..p.count {
+        let slot = p.slots[k];
         at += encode_segment(slot.segment, pool, &mut out[at..]);
     }
 }

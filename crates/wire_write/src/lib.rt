@@ -1,7 +1,7 @@
 // Bytes and low-byte-first numbers in lent slices, stored. Each public function takes every argument: a store past the end changes nothing.
 #![tactic(auto)]
 
-ghost use Rattle.std.specs.Prelude.{◌≡◌, set};
+ghost use Rattle.std.specs.Prelude.{◌≡◌, ◌+◌, ◌≤◌, length, set, take};
 ghost use Rattle.std.proofs.lemmas.List.Edits.{sets};
 ghost use Rattle.wire.specs.Numbers.{low_first};
 
@@ -33,14 +33,30 @@ pub fn put_u32(out: &mut [u8], at: usize, v: u32)
     put_bytes(out, at, &four);
 }
 
+// Stores the first n bytes of src from a place on. Not by copy_from_slice: where n is not known the archives would want memmove from outside.
+#[tactic(auto, using(wire::proofs::Stores::copy_laws))]
+fn copy(out: &mut [u8], at: usize, src: &[u8], n: usize)
+    requires { (n ≤ length src.now) × (at + n ≤ length out.old) }
+    ensures { out.new ≡ sets out.old at (take n src.now) }
+{
+    for i in 0..n {
+        out[at + i] = src[i];
+    }
+}
+
 // Stores a run of bytes from a place on.
-#[tactic(auto, using(wire::proofs::Stores::run_past, crate::proofs::Runs::run_put))]
+#[tactic(auto, using(wire::proofs::Stores::run_laws))]
 pub fn put_bytes(out: &mut [u8], at: usize, src: &[u8])
     ensures { out.new ≡ sets out.old at src.now }
 {
     if out.len() <= at {
         return;
     }
-    let n = src.len().min(out.len() - at);
-    out[at..at + n].copy_from_slice(&src[..n]);
+    let room = out.len() - at;
+    let n = src.len();
+    if n <= room {
+        copy(out, at, src, n);
+        return;
+    }
+    copy(out, at, src, room);
 }
