@@ -1,4 +1,5 @@
 pub mod Places
 pub mod Ends
 pub mod Walks
+pub mod ShiftLaws
 pub mod Exact
