@@ -10,14 +10,12 @@ use mir.Syntax.{w64}
 use Rattle.wire.specs.Answers.{Put}
 use Rattle.wire.proofs.Stores.{length_lent}
 use Rattle.wire.proofs.Folds.{Storing, storing_first, storing_fits, storing_more, storing_ends}
-use Rattle.epath_sizes.specs.Limits.{max_segments}
 use Rattle.epath_sizes.specs.Segments.{Seg, encode_seg, encode}
 use Rattle.epath_sizes.specs.Lists.{meaning, slots_of, segs, segs_of}
 use Rattle.epath_sizes.specs.Sizes.{Good, AllGoodIn, AllGood}
 use Rattle.epath_sizes.specs.declared.Slot.{Slot}
 use Rattle.epath_sizes.specs.declared.Path.{Path}
 use Rattle.epath_sizes.proofs.PathLaws.{none, next}
-use Rattle.path_sizes.proofs.Places.{listed_long, placed}
 
 pub record Filing (pool : List ℕ) (p : Path) (old out : List ℕ) (at i : ℕ) : Type 0 where
   pub stores : Storing encode_seg (segs_of pool p) old out at i
@@ -39,41 +37,36 @@ module _ (pool : List ℕ) (p : Path) where
     pub filing_same : length out ≡ length old
     filing_same = f.stores.same
 
-    module _ (full : length p.slots ≡ max_segments) (few : p.count ≤ max_segments) where
-      pub filing_ends : p.count ≤ i → out ≡ sets old 0 (encode (segs_of pool p))
-      filing_ends h = storing_ends encode_seg (segs_of pool p) f.stores (simp length-map (omega (arith, listed_long p full few)))
+    pub filing_ends : length (slots_of p) ≤ i → out ≡ sets old 0 (encode (segs_of pool p))
+    filing_ends h = storing_ends encode_seg (segs_of pool p) f.stores (simp length-map h)
 
-      module _ (h : i < p.count) where
-        x : Slot
-        x = get_or p.slots i none
+    module _ (h : i < length (slots_of p)) where
+      x : Slot
+      x = get_or (slots_of p) i none
 
-        there : drop i (slots_of p) ≡ x ∷ drop (i + 1) (slots_of p)
+      here : drop i (segs_of pool p) ≡ meaning pool x.segment ∷ drop (i + 1) (segs_of pool p)
+      unfolding x
+      here = map_drop pool (slots_of p) i ∙ ap (segs pool) (next (slots_of p) i h) ∙ ap (λ (l : List Seg). meaning pool x.segment ∷ l) (sym (map_drop pool (slots_of p) (i + 1)))
+
+      goods_here : Good pool x.segment × AllGoodIn pool (drop (i + 1) (slots_of p))
+      unfolding x
+      goods_here = subst (λ (l : List Slot). AllGoodIn pool l) (next (slots_of p) i h) f.good
+
+      pub filing_asks : Good pool (get_or (slots_of p) i none).segment
+      unfolding x
+      filing_asks = goods_here.0
+
+      pub filing_room : length (encode_seg (meaning pool (get_or (slots_of p) i none).segment)) ≤ length (take (length out - at) (drop at out))
+      unfolding x
+      filing_room = omega (arith, storing_fits encode_seg (segs_of pool p) f.stores here, length_lent out at)
+
+      module _ (n : ℕ) (new : List ℕ) (t : Put (encode_seg (meaning pool (get_or (slots_of p) i none).segment)) (take (length out - at) (drop at out)) n new) where
+        pub filing_fits : length old < 2 ^ 64 → Fits w64 (at + n)
         unfolding x
-        there = next (slots_of p) i (omega (arith, listed_long p full few)) ∙ ap (λ (z : Slot). z ∷ drop (i + 1) (slots_of p)) (placed p full few i h)
+        filing_fits g = record { fits = omega (arith, storing_fits encode_seg (segs_of pool p) f.stores here, t.size, f.stores.same) }
 
-        here : drop i (segs_of pool p) ≡ meaning pool x.segment ∷ drop (i + 1) (segs_of pool p)
+        pub filing_more : Filing pool p old (take at out ++ (new ++ drop (length out - at) (drop at out))) (at + n) (i + 1)
         unfolding x
-        here = map_drop pool (slots_of p) i ∙ ap (segs pool) there ∙ ap (λ (l : List Seg). meaning pool x.segment ∷ l) (sym (map_drop pool (slots_of p) (i + 1)))
-
-        goods_here : Good pool x.segment × AllGoodIn pool (drop (i + 1) (slots_of p))
-        unfolding x
-        goods_here = subst (λ (l : List Slot). AllGoodIn pool l) there f.good
-
-        pub filing_asks : Good pool (get_or p.slots i none).segment
-        unfolding x
-        filing_asks = goods_here.0
-
-        pub filing_room : length (encode_seg (meaning pool (get_or p.slots i none).segment)) ≤ length (take (length out - at) (drop at out))
-        unfolding x
-        filing_room = omega (arith, storing_fits encode_seg (segs_of pool p) f.stores here, length_lent out at)
-
-        module _ (n : ℕ) (new : List ℕ) (t : Put (encode_seg (meaning pool (get_or p.slots i none).segment)) (take (length out - at) (drop at out)) n new) where
-          pub filing_fits : length old < 2 ^ 64 → Fits w64 (at + n)
-          unfolding x
-          filing_fits g = record { fits = omega (arith, storing_fits encode_seg (segs_of pool p) f.stores here, t.size, f.stores.same) }
-
-          pub filing_more : Filing pool p old (take at out ++ (new ++ drop (length out - at) (drop at out))) (at + n) (i + 1)
-          unfolding x
-          filing_more = record { stores = storing_more encode_seg (segs_of pool p) f.stores here t; good = goods_here.1 }
+        filing_more = record { stores = storing_more encode_seg (segs_of pool p) f.stores here t; good = goods_here.1 }
 
 pub ruleset filing_laws = (filing_first, filing_at, filing_same, filing_ends, filing_asks, filing_room, filing_fits, filing_more)

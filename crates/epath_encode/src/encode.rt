@@ -116,9 +116,7 @@ fn encode_path(p: Path, pool: &[u8], out: &mut [u8])
     ensures { out.new ≡ sets out.old 0 (encode (segs_of pool.now p)) }
 {
     let mut at = 0;
-    // by place: lent as a slice the whole list would be copied first
-    for k in 0..p.count {
-        let slot = p.slots[k];
+    for slot in &p.slots[..p.count] {
         at += encode_segment(slot.segment, pool, &mut out[at..]);
     }
 }

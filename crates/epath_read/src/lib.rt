@@ -6,7 +6,6 @@ ghost use Rattle.epath_sizes.specs.Limits.{max_place};
 ghost use Rattle.epath_sizes.specs.Lists.{start_of, shifted};
 ghost use Rattle.epath_read.specs.Reads.{paper_path, read_path};
 
-use epath_lists::blank_path;
 use epath_segment::read_segment;
 use epath_sizes::{Path, PortSegment, Segment, Slot, SymbolSegment};
 use wire::Refusal;
@@ -34,7 +33,14 @@ fn shift(x: Segment, at: usize) -> Segment
 pub fn read_path(s: &[u8]) -> Result<Path, Refusal>
     ensures { paper_path result ≡ read_path s.now }
 {
-    let mut path = blank_path();
+    // not blank_path(): what it answers would be copied once more
+    let blank = Slot {
+        segment: Segment::Class(0),
+    };
+    let mut path = Path {
+        slots: [blank; epath_sizes::MAX_SEGMENTS],
+        count: 0,
+    };
     let mut place: usize = 0;
     // no range: a path may end at each turn, so the end would be asked for in the loop and again behind it
     while place < s.len() {

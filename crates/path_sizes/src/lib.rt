@@ -9,7 +9,7 @@ use epath_sizes::{Path, segment_size};
 use wire::Refusal;
 
 // A list's first refusal, or how many bytes it takes.
-#[tactic(auto, using(crate::proofs::Places::placed_laws))]
+#[tactic(auto, using(epath_sizes::proofs::PathLaws::summing_laws))]
 pub fn path_size(p: Path, pool: &[u8]) -> Result<usize, Refusal>
     ensures { paper result ≡ path_size pool.now p }
 {
@@ -17,9 +17,7 @@ pub fn path_size(p: Path, pool: &[u8]) -> Result<usize, Refusal>
         return Err(Refusal::Limit);
     }
     let mut total = 0;
-    // by place: lent as a slice the whole list would be copied first
-    for i in 0..p.count {
-        let slot = p.slots[i];
+    for slot in &p.slots[..p.count] {
         total += segment_size(slot.segment, pool)?;
     }
     Ok(total)

@@ -1,6 +1,6 @@
 -- `path_sizes::path_size` meets its contract. Assumes nothing.
-use Rattle.path_sizes.proofs.Places.{few_below, placed_more}
+use Rattle.epath_sizes.proofs.PathLaws.{summing_more}
 use Rattle.path_sizes.proofs.path_size.Goals as goal
 
-pub loop-i-preserved : goal.loop-i-preserved
-loop-i-preserved c = search (placed_more, few_below, c.in_ok-total.ensures)
+pub loop-slot-preserved : goal.loop-slot-preserved
+loop-slot-preserved c = search (summing_more, c.in_ok-total.ensures)

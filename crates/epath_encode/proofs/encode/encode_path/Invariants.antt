@@ -2,5 +2,5 @@
 use Rattle.epath_encode.proofs.FileLaws.{Filing}
 use Rattle.epath_encode.proofs.encode.encode_path.Given as goal
 
-abbrev pub invariant-loop-k : goal.invariant-loop-k
-invariant-loop-k l = Filing l.pool l.fn.p l.initial.out l.out l.at l.k
+abbrev pub invariant-loop-slot : goal.invariant-loop-slot
+invariant-loop-slot l = Filing l.pool l.fn.p l.initial.out l.out l.at l.slot-index
