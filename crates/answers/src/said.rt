@@ -2,7 +2,6 @@
 use crate::fields::MAX_ROOM;
 use epath::Segment;
 use statuses::Status;
-use std::fmt;
 use wire::Refusal;
 
 // What an output holds before it is lent, so that what is not written shows.
@@ -116,18 +115,5 @@ impl<'a> Answer<'a> {
                 self.u16(word);
             }
         }
-    }
-}
-
-// An answer's line: capital hex.
-#[derive(Clone, Copy)]
-pub struct Hex<'a>(pub &'a [u8]);
-
-impl fmt::Display for Hex<'_> {
-    fn fmt<W: fmt::Write>(&self, f: &mut fmt::Formatter<W>) -> fmt::Result {
-        for b in self.0 {
-            write!(f, "{b:02X}")?;
-        }
-        Ok(())
     }
 }
