@@ -4,35 +4,53 @@
 mod show; // show.rt: a segment as text
 
 use show::Shown;
-use std::io::{self, Read};
+use std::fmt::Display;
+use std::io::Read;
 
 // Input past this can't change the answer: 127 segments take at most 32,766 bytes, and one more is 3.
 const ROOM: usize = 65536;
 
-// What the path s holds.
-fn show_path(rt: &impl Print, s: &[u8]) -> io::Result<()> {
-    let path = match epath::read_path(s) {
-        Ok(path) => path,
-        Err(e) => return println!(rt; "refused {}", wire::refusal_number(e)),
-    };
-    for slot in path.slots.iter().take(path.count) {
-        println!(rt;
-            "{}",
-            Shown {
-                segment: slot.segment,
-                path: s
-            }
-        )?;
-    }
-    Ok(())
+// Prints a line. What can't be written is passed over, and the status doesn't tell of it.
+fn say<D: Display + Drop>(rt: &impl Print, line: D) {
+    let _ = rt.println(line);
 }
 
-// A read that fails ends the input, and the status tells of no output that can't be written.
+// What the path s holds.
+fn show_path(rt: &impl Print, s: &[u8]) {
+    match epath::read_path(s) {
+        Ok(path) => {
+            for slot in path.slots.iter().take(path.count) {
+                say(
+                    rt,
+                    Shown {
+                        segment: slot.segment,
+                        path: s,
+                    },
+                );
+            }
+        }
+        Err(e) => say(rt, format_args!("refused {}", wire::refusal_number(e))),
+    }
+}
+
+// Reads until room is full or the input ends; answers how many bytes that were. A read that fails ends the input.
+// Each read but the last gives a byte at least, so there are no more reads than bytes.
+fn read_full(input: &mut impl Read, room: &mut [u8]) -> usize {
+    let mut done = 0;
+    for _ in 0..room.len() {
+        if room.len() <= done {
+            break;
+        }
+        match input.read(&mut room[done..]) {
+            Ok(0) | Err(_) => break,
+            Ok(n) => done += n,
+        }
+    }
+    done
+}
+
 fn main(rt: HostRuntime) {
-    // four lines, as in the other programs that read one buffer: a crate for them would be no plainer
     let mut room = [0; ROOM];
-    let mut rest = &mut room[..];
-    let _ = io::copy(&mut rt.stdin().take(65536), &mut rest);
-    let left = rest.len();
-    let _ = show_path(&rt, wire_read::part_of(&room, 0, ROOM.saturating_sub(left)));
+    let n = read_full(&mut rt.stdin(), &mut room);
+    show_path(&rt, wire_read::part_of(&room, 0, n));
 }

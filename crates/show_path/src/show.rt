@@ -1,5 +1,6 @@
 // A segment as text.
 use epath::Segment;
+use hex_digits::hex_digit;
 use std::fmt;
 
 // A segment of a path that was read from these bytes.
@@ -40,7 +41,7 @@ impl fmt::Display for Symbol<'_> {
         for b in self.0 {
             match *b {
                 b' '..=b'[' | b']'..=b'~' => write!(f, "{}", char::from(*b))?,
-                other => write!(f, "\\x{other:02X}")?,
+                other => write!(f, "\\x{}", Hex(other))?,
             }
         }
         Ok(())
@@ -54,8 +55,19 @@ struct Link<'a>(&'a [u8]);
 impl fmt::Display for Link<'_> {
     fn fmt<W: fmt::Write>(&self, f: &mut fmt::Formatter<W>) -> fmt::Result {
         for b in self.0 {
-            write!(f, " {b:02X}")?;
+            write!(f, " {}", Hex(*b))?;
         }
         Ok(())
+    }
+}
+
+// A byte in two digits, with capital letters.
+#[derive(Clone, Copy)]
+struct Hex(u8);
+
+impl fmt::Display for Hex {
+    fn fmt<W: fmt::Write>(&self, f: &mut fmt::Formatter<W>) -> fmt::Result {
+        f.write_char(char::from(hex_digit(self.0 / 16)))?;
+        f.write_char(char::from(hex_digit(self.0)))
     }
 }
