@@ -10,7 +10,8 @@ mod replies; // replies.rt: the cards on replies and bodies
 mod rest; // rest.rt: the functions that the program answers has no operation for
 
 use recorded::Cards;
-use std::io::{self, Read};
+use std::fmt::Display;
+use std::io::Read;
 
 // Bytes of the crate's answers, and more.
 const ROOM: usize = 65536;
@@ -18,26 +19,39 @@ const ROOM: usize = 65536;
 // What an output holds before it is lent, so that what is not written shows.
 const BLANK: u8 = 0xA5;
 
-fn run(rt: &HostRuntime, crate_said: &[u8]) -> io::Result<()> {
-    let mut cards = Cards::new(rt, crate_said);
-    paths::ports(&mut cards)?;
-    paths::elements(&mut cards)?;
-    paths::others(&mut cards)?;
-    requests::defaults(&mut cards)?;
-    requests::sizes(&mut cards)?;
-    replies::headers(&mut cards)?;
-    replies::bodies(&mut cards)?;
-    cards.none_left()?;
-    rest::functions(rt)?;
-    rest::refusals(rt)
+// Prints what it is given. What can't be written is passed over, and the status doesn't tell of it.
+fn say<D: Display + Drop>(rt: &impl Print, what: D) {
+    let _ = rt.print(what);
 }
 
-// A read that fails ends the input, and the status tells of no output that can't be written.
+// Reads until room is full or the input ends; answers how many bytes that were. A read that fails ends the input.
+// Each read but the last gives a byte at least, so there are no more reads than bytes.
+fn read_full(input: &mut impl Read, room: &mut [u8]) -> usize {
+    let mut done = 0;
+    for _ in 0..room.len() {
+        if room.len() <= done {
+            break;
+        }
+        match input.read(&mut room[done..]) {
+            Ok(0) | Err(_) => break,
+            Ok(n) => done += n,
+        }
+    }
+    done
+}
+
 fn main(rt: HostRuntime) {
-    // four lines, as in the other programs that read one buffer: a crate for them would be no plainer
     let mut room = [0; ROOM];
-    let mut rest = &mut room[..];
-    let _ = io::copy(&mut rt.stdin().take(65536), &mut rest);
-    let left = rest.len();
-    let _ = run(&rt, wire_read::part_of(&room, 0, ROOM.saturating_sub(left)));
+    let n = read_full(&mut rt.stdin(), &mut room);
+    let mut cards = Cards::new(&rt, wire_read::part_of(&room, 0, n));
+    paths::ports(&mut cards);
+    paths::elements(&mut cards);
+    paths::others(&mut cards);
+    requests::defaults(&mut cards);
+    requests::sizes(&mut cards);
+    replies::headers(&mut cards);
+    replies::bodies(&mut cards);
+    cards.none_left();
+    rest::functions(&rt);
+    rest::refusals(&rt);
 }

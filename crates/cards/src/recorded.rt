@@ -1,8 +1,8 @@
 // The cards' lines. The crate's answers come from oracle/: a line of hex each; a line that is none where the crate gave an error or has no such
 // function.
+use crate::say;
 use crate::show::Said;
 use lines::Case;
-use std::io;
 
 const NEWLINE: u8 = 10;
 
@@ -34,33 +34,33 @@ impl<'a> Cards<'a> {
     }
 
     // A card's line: its name, document 01's answer, our own, and what the crate answered.
-    pub(crate) fn card(&mut self, name: &str, want: Said<'_>, ours: Said<'_>) -> io::Result<()> {
-        print!(self.rt; "{name}:{want}; we:")?;
+    pub(crate) fn card(&mut self, name: &str, want: Said<'_>, ours: Said<'_>) {
+        say(self.rt, format_args!("{name}:{want}; we:"));
         if ours == want {
-            print!(self.rt; " the same; the crate:")?;
+            say(self.rt, " the same; the crate:");
         } else {
-            print!(self.rt; "{ours}; the crate:")?;
+            say(self.rt, format_args!("{ours}; the crate:"));
         }
         let mut out = [0; MOST];
         match self.next(&mut out) {
-            Case::Nothing => println!(self.rt; " NOT RECORDED"),
-            Case::Bad => println!(self.rt; " none"),
+            Case::Nothing => say(self.rt, " NOT RECORDED\n"),
+            Case::Bad => say(self.rt, " none\n"),
             Case::Bytes(n) => {
                 let theirs = Said::Bytes(wire_read::part_of(&out, 0, n));
                 if theirs == want {
-                    println!(self.rt; " the same")
+                    say(self.rt, " the same\n");
                 } else {
-                    println!(self.rt; "{theirs}")
+                    say(self.rt, format_args!("{theirs}\n"));
                 }
             }
         }
     }
 
     // Each recorded answer belongs to a card.
-    pub(crate) fn none_left(&mut self) -> io::Result<()> {
+    pub(crate) fn none_left(&mut self) {
         match self.next(&mut [0; MOST]) {
-            Case::Nothing => Ok(()),
-            Case::Bytes(_) | Case::Bad => println!(self.rt; "RECORDED ANSWERS LEFT OVER"),
+            Case::Nothing => {}
+            Case::Bytes(_) | Case::Bad => say(self.rt, "RECORDED ANSWERS LEFT OVER\n"),
         }
     }
 }

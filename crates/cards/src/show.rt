@@ -1,4 +1,5 @@
 // An answer as text.
+use hex_digits::hex_digit;
 use std::fmt;
 use wire::Refusal;
 
@@ -49,7 +50,9 @@ struct Hex<'a>(&'a [u8]);
 impl fmt::Display for Hex<'_> {
     fn fmt<W: fmt::Write>(&self, f: &mut fmt::Formatter<W>) -> fmt::Result {
         for b in self.0 {
-            write!(f, " {b:02X}")?;
+            f.write_char(' ')?;
+            f.write_char(char::from(hex_digit(*b / 16)))?;
+            f.write_char(char::from(hex_digit(*b)))?;
         }
         Ok(())
     }
