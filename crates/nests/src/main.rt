@@ -4,7 +4,7 @@
 mod rows; // rows.rt: a run of numbers, counted
 
 use rows::Row;
-use std::io;
+use std::fmt::Display;
 use wire::Refusal;
 
 const LONGEST: usize = 65535;
@@ -34,74 +34,88 @@ fn put_packet(out: &mut [u8]) {
     }
 }
 
+// Prints what it is given. What can't be written is passed over, and the status doesn't tell of it.
+fn say<D: Display + Drop>(rt: &impl Print, what: D) {
+    let _ = rt.print(what);
+}
+
 // What was answered, with a word for an answer that is no refusal.
-fn tell(rt: &impl Print, word: &str, answer: Result<usize, Refusal>) -> io::Result<()> {
+fn tell(rt: &impl Print, word: &str, answer: Result<usize, Refusal>) {
     match answer {
-        Ok(n) => print!(rt; "{word} {n}"),
-        Err(e) => print!(rt; "refused {}", wire::refusal_number(e)),
+        Ok(n) => say(rt, format_args!("{word} {n}")),
+        Err(e) => say(rt, format_args!("refused {}", wire::refusal_number(e))),
     }
 }
 
 // Reads s with so much room for its rows.
-fn read(rt: &impl Print, s: &[u8], run: &mut [u16], room: usize) -> io::Result<()> {
+fn read(rt: &impl Print, s: &[u8], run: &mut [u16], room: usize) {
     run.fill(BLANK);
-    print!(rt; "of {} bytes, room for {room} numbers: ", s.len())?;
+    say(
+        rt,
+        format_args!("of {} bytes, room for {room} numbers: ", s.len()),
+    );
     if let Some(lent) = run.get_mut(..room) {
-        tell(rt, "messages", nested::read_nested(s, lent))?;
+        tell(rt, "messages", nested::read_nested(s, lent));
     }
     let blanks = run.iter().filter(|n| **n == BLANK).count();
-    print!(rt; ", as they stood {blanks} of {}", run.len())?;
-    println!(rt;
-        ", rows 1 0E 0 0: {}, the first row {}",
-        rows::small(run),
-        Row::at(run, 0)
-    )
+    let small = rows::small(run);
+    say(
+        rt,
+        format_args!(", as they stood {blanks} of {}", run.len()),
+    );
+    say(
+        rt,
+        format_args!(
+            ", rows 1 0E 0 0: {small}, the first row {}\n",
+            Row::at(run, 0)
+        ),
+    );
 }
 
 // The same of its text.
-fn write(rt: &impl Print, s: &[u8], text: &mut [u8], room: usize) -> io::Result<()> {
+fn write(rt: &impl Print, s: &[u8], text: &mut [u8], room: usize) {
     text.fill(BLANK_BYTE);
-    print!(rt; "of {} bytes, room for {room} bytes of text: ", s.len())?;
+    say(
+        rt,
+        format_args!("of {} bytes, room for {room} bytes of text: ", s.len()),
+    );
     if let Some(lent) = text.get_mut(..room) {
-        tell(rt, "bytes", dump_text::write_dump(s, lent))?;
+        tell(rt, "bytes", dump_text::write_dump(s, lent));
     }
     let blanks = text.iter().filter(|b| **b == BLANK_BYTE).count();
-    println!(rt; ", as they stood {blanks} of {}", text.len())
+    say(
+        rt,
+        format_args!(", as they stood {blanks} of {}\n", text.len()),
+    );
 }
 
 // The example, with room for fewer numbers and for less text than it has, for as many, and for more.
-fn few(rt: &impl Print, run: &mut [u16], text: &mut [u8]) -> io::Result<()> {
+fn few(rt: &impl Print, run: &mut [u16], text: &mut [u8]) {
     for room in [0, 11, 12, 13] {
-        read(rt, &EXAMPLE, run, room)?;
+        read(rt, &EXAMPLE, run, room);
     }
     for room in [0, 27, 28, 29] {
-        write(rt, &EXAMPLE, text, room)?;
+        write(rt, &EXAMPLE, text, room);
     }
-    Ok(())
 }
 
 // The longest packet, and one byte more.
-fn longest(rt: &impl Print, run: &mut [u16], text: &mut [u8]) -> io::Result<()> {
+fn longest(rt: &impl Print, run: &mut [u16], text: &mut [u8]) {
     let mut s = [0; LONGEST + 1];
     put_packet(&mut s);
     let n = s.get(..LONGEST).unwrap_or_default();
-    read(rt, n, run, 65527)?;
-    read(rt, n, run, 65528)?;
-    println!(rt; "its last row {}", Row::at(run, 65524))?;
-    write(rt, n, text, 147441)?;
-    write(rt, n, text, 147442)?;
-    read(rt, &s, run, 65536)?;
-    write(rt, &s, text, 10)
+    read(rt, n, run, 65527);
+    read(rt, n, run, 65528);
+    say(rt, format_args!("its last row {}\n", Row::at(run, 65524)));
+    write(rt, n, text, 147441);
+    write(rt, n, text, 147442);
+    read(rt, &s, run, 65536);
+    write(rt, &s, text, 10);
 }
 
-fn run(rt: &impl Print) -> io::Result<()> {
+fn main(rt: HostRuntime) {
     let mut run = [0; 65536];
     let mut text = [0; 200000];
-    few(rt, &mut run, &mut text)?;
-    longest(rt, &mut run, &mut text)
-}
-
-// The status tells of no output that can't be written.
-fn main(rt: HostRuntime) {
-    let _ = run(&rt);
+    few(&rt, &mut run, &mut text);
+    longest(&rt, &mut run, &mut text);
 }
