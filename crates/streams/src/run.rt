@@ -1,6 +1,7 @@
 // A driver: it holds the state, lends it with the buffer at each call, and gives what a frame left of a scrap again.
+use crate::say;
 use frames::{Frame, FrameState};
-use std::{fmt, io};
+use std::fmt;
 use wire::Refusal;
 
 const PRIME: usize = 1000003;
@@ -54,22 +55,29 @@ impl Run {
         self.sum = sum_of(frame, mix(self.sum, f.length));
     }
 
-    fn tell_frame(&self, rt: &impl Print, f: Frame, frame: &[u8]) -> io::Result<()> {
-        print!(rt; "  a frame of {} bytes, sum {}", f.length, sum_of(frame, 0))?;
-        print!(rt;
-            ": ends at {}, out when {} were given",
-            self.bytes, self.given
-        )?;
-        println!(rt; ", {} taken", self.at)
+    fn tell_frame(&self, rt: &impl Print, f: Frame, frame: &[u8]) {
+        let sum = sum_of(frame, 0);
+        say(
+            rt,
+            format_args!("  a frame of {} bytes, sum {sum}", f.length),
+        );
+        say(
+            rt,
+            format_args!(
+                ": ends at {}, out when {} were given",
+                self.bytes, self.given
+            ),
+        );
+        say(rt, format_args!(", {} taken\n", self.at));
     }
 
-    fn tell_refusal(&self, rt: &impl Print, e: Refusal) -> io::Result<()> {
-        print!(rt;
-            "  refused {} when {} were given",
-            wire::refusal_number(e),
-            self.given
-        )?;
-        println!(rt; ", held {}", self.held)
+    fn tell_refusal(&self, rt: &impl Print, e: Refusal) {
+        let number = wire::refusal_number(e);
+        say(
+            rt,
+            format_args!("  refused {number} when {} were given", self.given),
+        );
+        say(rt, format_args!(", held {}\n", self.held));
     }
 }
 
@@ -90,13 +98,7 @@ impl<'a> Driver<'a> {
     }
 
     // One call. A scrap that is refused is passed over. Aloud only prints: a closure that prints or does not is no plainer than the flag.
-    fn turn(
-        &mut self,
-        rt: &impl Print,
-        run: &mut Run,
-        scrap: &[u8],
-        aloud: bool,
-    ) -> io::Result<()> {
+    fn turn(&mut self, rt: &impl Print, run: &mut Run, scrap: &[u8], aloud: bool) {
         let took = frames::take_scrap(&mut self.state, self.buffer, scrap);
         run.calls = run.calls.wrapping_add(1);
         run.held = self.state.held;
@@ -105,28 +107,21 @@ impl<'a> Driver<'a> {
                 let frame = wire_read::part_of(self.buffer, 0, f.length);
                 run.framed(f, frame);
                 if aloud {
-                    run.tell_frame(rt, f, frame)?;
+                    run.tell_frame(rt, f, frame);
                 }
             }
             Ok(None) => run.at = run.given,
             Err(e) => {
                 run.at = run.given;
                 if aloud {
-                    run.tell_refusal(rt, e)?;
+                    run.tell_refusal(rt, e);
                 }
             }
         }
-        Ok(())
     }
 
     // Each call takes a byte at least, or passes its scrap over: so there are no more calls than bytes.
-    pub(crate) fn drive(
-        &mut self,
-        rt: &impl Print,
-        stream: &[u8],
-        cut: usize,
-        aloud: bool,
-    ) -> io::Result<Run> {
+    pub(crate) fn drive(&mut self, rt: &impl Print, stream: &[u8], cut: usize, aloud: bool) -> Run {
         let mut run = Run::default();
         for _ in 0..stream.len() {
             run.given = run.cut_end(cut, stream.len());
@@ -134,8 +129,8 @@ impl<'a> Driver<'a> {
             if scrap.is_empty() {
                 break;
             }
-            self.turn(rt, &mut run, scrap, aloud)?;
+            self.turn(rt, &mut run, scrap, aloud);
         }
-        Ok(run)
+        run
     }
 }
