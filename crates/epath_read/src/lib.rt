@@ -33,26 +33,24 @@ fn shift(x: Segment, at: usize) -> Segment
 pub fn read_path(s: &[u8]) -> Result<Path, Refusal>
     ensures { paper_path result ≡ read_path s.now }
 {
-    // not blank_path(): what it answers would be copied once more
+    // an array and a count, which a path made at once would copy once more
     let blank = Slot {
         segment: Segment::Class(0),
     };
-    let mut path = Path {
-        slots: [blank; epath_sizes::MAX_SEGMENTS],
-        count: 0,
-    };
+    let mut slots = [blank; epath_sizes::MAX_SEGMENTS];
+    let mut count = 0;
     let mut place: usize = 0;
     // no range: a path may end at each turn, so the end would be asked for in the loop and again behind it
     while place < s.len() {
-        if path.count == epath_sizes::MAX_SEGMENTS {
+        if count == epath_sizes::MAX_SEGMENTS {
             return Err(Refusal::Limit);
         }
         let found = read_segment(&s[place..])?;
-        path.slots[path.count] = Slot {
+        slots[count] = Slot {
             segment: shift(found.segment, place),
         };
-        path.count += 1;
+        count += 1;
         place += found.len;
     }
-    Ok(path)
+    Ok(Path { slots, count })
 }

@@ -5,7 +5,7 @@ use Rattle.epath_sizes.specs.Limits.{max_segments}
 use Rattle.epath_read.proofs.read_path.Given as goal
 
 abbrev pub invariant-loop-place : goal.invariant-loop-place
-invariant-loop-place l = Filling l.s l.path.slots l.path.count l.place
+invariant-loop-place l = Filling l.s l.slots l.count l.place
 
 abbrev pub decreases-loop-place : goal.decreases-loop-place
-decreases-loop-place l = max_segments - l.path.count
+decreases-loop-place l = max_segments - l.count
