@@ -19,16 +19,17 @@ pub table_some : (s : List ℕ) (n : ℕ) → 1 ≤ n
 table_some s zero h = absurd (omega arith)
 table_some s (suc m) h = let e : suc m - 1 ≡ m = omega arith in rw e
 
-pub later_some : (s : List ℕ) (n j k : ℕ) → k ≡ j + 1 → k < n
-    → later_rules (n - k) s j
-    ≡ under (length s) (4 + 2 * k) 1
-    ∷ under (offset_at s k) (offset_at s j + 1) 7
-    ∷ under (length s) (offset_at s k + 1) 7
-    ∷ later_rules (n - (k + 1)) s k
-later_some s n j k e h =
-    let p : 4 + 2 * (j + 1) ≡ 6 + 2 * j = omega arith in
-    let q : n - (j + 1) ≡ suc (n - (j + 1 + 1)) = omega arith in
-    rw (e, p, q)
+pub later_some : (s : List ℕ) (n k : ℕ) → k + 1 < n
+    → later_rules (n - (k + 1)) s k
+    ≡ under (length s) (6 + 2 * k) 1
+    ∷ under (offset_at s (k + 1)) (offset_at s k + 1) 7
+    ∷ under (length s) (offset_at s (k + 1) + 1) 7
+    ∷ later_rules (n - (k + 1 + 1)) s (k + 1)
+later_some s n k h = let e : n - (k + 1) ≡ suc (n - (k + 1 + 1)) = omega arith in ap (λ (m : ℕ). later_rules m s k) e
+
+-- offset k + 1 where the code reads it
+pub offset_next : (s : List ℕ) (k : ℕ) → offset_at s (k + 1) ≡ value_of 2 (drop (4 + 2 * k) s)
+offset_next s k = let e : 2 + 2 * (k + 1) ≡ 4 + 2 * k = omega arith in ap (λ (at : ℕ). value_of 2 (drop at s)) e
 
 -- ---- the first offset
 module _ (s : List ℕ) (n : ℕ) (some : 1 ≤ n) where
@@ -63,53 +64,54 @@ pub ruleset table_laws = (table_short, table_first, table_ready, table_outside, 
 -- ---- the others
 module _ (s : List ℕ) (n : ℕ) where
   pub record Reading (last k : ℕ) : Type 0 where
-    pub before : ℕ
-    pub next : k ≡ before + 1
-    pub more : k ≤ n
+    pub more : k + 1 ≤ n
     pub few : n ≤ max_record
-    pub is : last ≡ offset_at s before
-    pub rest : judged (later_rules (n - k) s before) (done n) ≡ judged (later_rules (n - 1) s 0) (done n)
+    pub is : last ≡ offset_at s k
+    pub rest : judged (later_rules (n - (k + 1)) s k) (done n) ≡ judged (later_rules (n - 1) s 0) (done n)
 
-  pub reading_first : (first : ℕ) → FirstAt s n first → Reading first 1
-  reading_first first u = record { before = 0; next = refl; more = u.some; few = u.few; is = u.is; rest = refl }
+  pub reading_first : (first : ℕ) → FirstAt s n first → Reading first 0
+  reading_first first u = record { more = u.some; few = u.few; is = u.is; rest = refl }
 
   module _ (last k : ℕ) (m : Reading last k) where
-    module _ (l : k < n) where
+    module _ (l : k + 1 < n) where
       turn : (z : Answer ℕ)
-          → z ≡ judged (under (length s) (4 + 2 * k) 1 ∷ under (offset_at s k) (offset_at s m.before + 1) 7 ∷ under (length s) (offset_at s k + 1) 7 ∷ later_rules (n - (k + 1)) s k) (done n)
+          → z ≡ judged (under (length s) (6 + 2 * k) 1 ∷ under (offset_at s (k + 1)) (offset_at s k + 1) 7 ∷ under (length s) (offset_at s (k + 1) + 1) 7 ∷ later_rules (n - (k + 1 + 1)) s (k + 1)) (done n)
           → z ≡ judged (later_rules (n - 1) s 0) (done n)
-      turn z e = e ∙ ap (λ (rs : List Rule). judged rs (done n)) (sym (later_some s n m.before k m.next l)) ∙ m.rest
+      turn z e = e ∙ ap (λ (rs : List Rule). judged rs (done n)) (sym (later_some s n k l)) ∙ m.rest
 
-      pub reading_short : length s < 2 + 2 * k + 2 → refused 1 ≡ judged (later_rules (n - 1) s 0) (done n)
-      reading_short h = let g : length s < 4 + 2 * k = omega arith in turn (refused 1) (search rules)
+      pub reading_short : length s < 4 + 2 * k + 2 → refused 1 ≡ judged (later_rules (n - 1) s 0) (done n)
+      reading_short h = let g : length s < 6 + 2 * k = omega arith in turn (refused 1) (search rules)
 
-      module _ (h : 2 + 2 * k + 2 ≤ length s) (v : ℕ) (is : v ≡ value_of 2 (drop (2 + 2 * k) s)) where
-        there : 4 + 2 * k ≤ length s
+      module _ (h : 4 + 2 * k + 2 ≤ length s) (v : ℕ) (is : v ≡ value_of 2 (drop (4 + 2 * k) s)) where
+        there : 6 + 2 * k ≤ length s
         there = omega arith
 
+        same : v ≡ offset_at s (k + 1)
+        same = is ∙ sym (offset_next s k)
+
         pub reading_low : v ≤ last → refused 7 ≡ judged (later_rules (n - 1) s 0) (done n)
-        reading_low f = let j : offset_at s k < offset_at s m.before + 1 = omega (arith, is, m.is) in turn (refused 7) (search (rules, there))
+        reading_low f = let j : offset_at s (k + 1) < offset_at s k + 1 = omega (arith, same, m.is) in turn (refused 7) (search (rules, there))
 
         module _ (f : last < v) where
-          higher : offset_at s m.before + 1 ≤ offset_at s k
-          higher = omega (arith, is, m.is)
+          higher : offset_at s k + 1 ≤ offset_at s (k + 1)
+          higher = omega (arith, same, m.is)
 
           pub reading_outside : length s ≤ v → refused 7 ≡ judged (later_rules (n - 1) s 0) (done n)
           reading_outside o =
-              let j : length s < offset_at s k + 1 = omega (arith, is) in
+              let j : length s < offset_at s (k + 1) + 1 = omega (arith, same) in
               turn (refused 7) (search (rules, there, higher))
 
           pub reading_more : v < length s → Reading v (k + 1)
           reading_more o =
-              let j : offset_at s k + 1 ≤ length s = omega (arith, is) in
-              let left : Answer ℕ = judged (later_rules (n - (k + 1)) s k) (done n) in
-              record { before = k; next = refl; more = omega arith; few = m.few; is = is; rest = turn left (search (rules, there, higher)) }
+              let j : offset_at s (k + 1) + 1 ≤ length s = omega (arith, same) in
+              let left : Answer ℕ = judged (later_rules (n - (k + 1 + 1)) s (k + 1)) (done n) in
+              record { more = omega arith; few = m.few; is = same; rest = turn left (search (rules, there, higher)) }
 
-    pub reading_ends : n ≤ k → done n ≡ judged (later_rules (n - 1) s 0) (done n)
+    pub reading_ends : n ≤ k + 1 → done n ≡ judged (later_rules (n - 1) s 0) (done n)
     reading_ends h =
-        let e : 0 ≡ n - k = omega arith in
+        let e : 0 ≡ n - (k + 1) = omega arith in
         let z : done n ≡ judged [] (done n) = search rules in
-        z ∙ ap (λ (j : ℕ). judged (later_rules j s m.before) (done n)) e ∙ m.rest
+        z ∙ ap (λ (j : ℕ). judged (later_rules j s k) (done n)) e ∙ m.rest
 
 pub ruleset reading_laws = (reading_first, reading_short, reading_low, reading_outside, reading_more, reading_ends)
 

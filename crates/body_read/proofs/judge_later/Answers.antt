@@ -15,3 +15,6 @@ returns-then-s-offset c = search (reading_laws, rules) fits 5000
 
 pub returns : goal.returns
 returns c = search (reading_laws, rules) fits 5000
+
+pub loop-k-preserved : goal.loop-k-preserved
+loop-k-preserved c = search (reading_laws, rules) fits 5000
