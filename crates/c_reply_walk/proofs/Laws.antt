@@ -54,11 +54,11 @@ module _ (s : List ℕ) (n : ℕ) (old : List ℕ) where
     pub turn_place : reply_row_size * n ≤ length old → k < n → reply_row_size * k + reply_row_size ≤ length rows
     turn_place h l = omega (arith, t.same)
 
-    pub turn_goes : (w : Result MessageReply Refusal) (row new : List ℕ) → k < n → paper w ≡ walk_reply s n k → row ≡ reply_row (paper w) → new ≡ sets rows (reply_row_size * k) row → Turn new (k + 1)
-    turn_goes w row new l is g e =
+    pub turn_goes : (w : Result MessageReply Refusal) (new : List ℕ) → k < n → paper w ≡ walk_reply s n k → new ≡ sets rows (reply_row_size * k) (reply_row (paper w)) → Turn new (k + 1)
+    turn_goes w new l is e =
         let a : List ℕ = reply_row (walk_reply s n k) in
         let b : List ℕ = rows_from (n - (k + 1)) s n (k + 1) in
-        let f : new ≡ sets rows (reply_row_size * k) a = e ∙ ap (λ (x : List ℕ). sets rows (reply_row_size * k) x) (g ∙ ap reply_row is) in
+        let f : new ≡ sets rows (reply_row_size * k) a = e ∙ ap (λ (x : Answer MessageReply). sets rows (reply_row_size * k) (reply_row x)) is in
         let p : reply_row_size * (k + 1) ≡ reply_row_size * k + length a = omega (arith, row_length (walk_reply s n k)) in
         let q : suc (n - (k + 1)) ≡ n - k = omega arith in
         record {
