@@ -1,11 +1,10 @@
--- Rows of replies: a row is copied, a turn of the loop is a row, and the ends of the walk. Assumes nothing.
+-- Rows of replies: a row is seven stores, a turn of the loop is a row, and the ends of the walk. Assumes nothing.
 use Prim.Native.Nat.{ℕ, zero, suc, ◌+◌, ◌*◌, ◌-◌, ◌/◌, ◌≤◌, ◌<◌}
 use mathlib.Core.Path.{◌≡◌, refl, sym, ap, ◌∙◌}
-use mathlib.Core.List.{List, [], ◌∷◌, ◌++◌, append_assoc}
+use mathlib.Core.List.{List, [], ◌∷◌}
 use native.Mathlib.Omega.{arith}
-use lib.ListN.{length, length-append, take, drop}
-use lib.Seq.{sets, sets-eq, length-sets, drop-drop}
-use borrow.Rule.Slice.PartMut.{put_mid}
+use lib.ListN.{length, length-append, get_or, set, drop, drop_of_length-le}
+use lib.Seq.{sets, drop-cons, length-sets}
 use Rattle.std.specs.Prelude.{Result}
 use Rattle.wire.specs.Answers.{Answer, done, refused, paper, under, judged, written}
 use Rattle.wire.specs.declared.Refusal.{Refusal}
@@ -17,18 +16,29 @@ use Rattle.body_replies.specs.Replies.{walk_reply}
 use Rattle.c_reply_walk.specs.Rows.{reply_row_size, reply_row, rows_from, rows_answer, rows_in, reply_rows}
 
 -- ---- a row
-pub row_put : (l row new : List ℕ) (at : ℕ) → length row ≡ reply_row_size → at + reply_row_size ≤ length l → new ≡ row
-    → put_mid at (at + reply_row_size - at) l new ≡ sets l at row
-row_put l row new at w h e =
-    let k : at + reply_row_size - at ≡ reply_row_size = omega arith in
-    let d : drop reply_row_size (drop at l) ≡ drop (at + length row) l = drop-drop reply_row_size at l ∙ ap (λ (j : ℕ). drop (at + j) l) (sym w) in
-    ap (λ (j : ℕ). take at l ++ (new ++ drop j (drop at l))) k
-    ∙ ap (λ (z : List ℕ). take at l ++ (z ++ drop reply_row_size (drop at l))) e
-    ∙ ap (λ (z : List ℕ). take at l ++ (row ++ z)) d
-    ∙ sym (append_assoc (take at l) row (drop (at + length row) l))
-    ∙ sym (sets-eq row l at (omega (arith, w)))
 
-pub ruleset row_laws = (row_put)
+-- seven numbers, one by one
+seven_are : (l : List ℕ) → length l ≡ 7 → get_or l 0 0 ∷ get_or l 1 0 ∷ get_or l 2 0 ∷ get_or l 3 0 ∷ get_or l 4 0 ∷ get_or l 5 0 ∷ get_or l 6 0 ∷ [] ≡ l
+seven_are l h =
+    let from : (i : ℕ) → i < 7 → get_or l i 0 ∷ drop (suc i) l ≡ drop i l = λ i k. sym (drop-cons l i 0 (omega arith)) in
+    let none : drop 7 l ≡ [] = drop_of_length-le l {i = 7} (omega arith) in
+    rw (← none, from 6 (omega arith), from 5 (omega arith), from 4 (omega arith), from 3 (omega arith), from 2 (omega arith), from 1 (omega arith), from 0 (omega arith))
+
+pub seven_stores : (l row : List ℕ) (at : ℕ) → length row ≡ reply_row_size
+    → set (set (set (set (set (set (set l at (get_or row 0 0)) (at + 1) (get_or row 1 0)) (at + 2) (get_or row 2 0)) (at + 3) (get_or row 3 0)) (at + 4) (get_or row 4 0)) (at + 5) (get_or row 5 0)) (at + 6) (get_or row 6 0)
+    ≡ sets l at row
+seven_stores l row at h =
+    let e1 : at + 1 ≡ suc at = omega arith in
+    let e2 : at + 2 ≡ suc (suc at) = omega arith in
+    let e3 : at + 3 ≡ suc (suc (suc at)) = omega arith in
+    let e4 : at + 4 ≡ suc (suc (suc (suc at))) = omega arith in
+    let e5 : at + 5 ≡ suc (suc (suc (suc (suc at)))) = omega arith in
+    let e6 : at + 6 ≡ suc (suc (suc (suc (suc (suc at))))) = omega arith in
+    let x : sets l at (get_or row 0 0 ∷ get_or row 1 0 ∷ get_or row 2 0 ∷ get_or row 3 0 ∷ get_or row 4 0 ∷ get_or row 5 0 ∷ get_or row 6 0 ∷ []) ≡ sets l at row
+    = ap (λ (t : List ℕ). sets l at t) (seven_are row h) in
+    rw (e1, e2, e3, e4, e5, e6) x
+
+pub ruleset row_laws = (seven_stores)
 
 -- ---- the loop: what is stored, and then what is left, is all rows
 
