@@ -17,7 +17,7 @@ use wire::{Refusal, refusal_number};
 // Numbers of a row: a refusal's number, 0 if there is none, and the six of a reply's header.
 const ROW: usize = 7;
 
-// Stores a row at a place. Not by copy_from_slice, which asks whether the two overlap: all replies would take half as much time again.
+// Stores a row at a place. Not by copy_from_slice, which asks whether the two overlap: all replies would take near a quarter more time.
 #[tactic(auto, using(crate::proofs::Laws::row_laws))]
 fn put_row(rows: &mut [usize], at: usize, row: &[usize; ROW])
     requires { at + reply_row_size ≤ length rows.old }
